@@ -25,19 +25,29 @@ count_below-most test zero = omega arith
 count_below-most test (suc n) = omega (arith, count_below-most test n, as_number-most (test n))
 
 -- where no fewer pass, no fewer are counted
-pub count_below-more : (f g : ℕ → Bool) (n : ℕ) → ((i : ℕ) → i < n → f i ≡ true → g i ≡ true) → count_below f n ≤ count_below g n
+pub count_below-more : (f g : ℕ → Bool) (n : ℕ) → ((i : ℕ) → i < n → f i ≡ true → g i ≡ true)
+    → count_below f n ≤ count_below g n
 count_below-more f g zero more = omega arith
 count_below-more f g (suc n) more =
-    omega (arith, count_below-more f g n (λ i below. more i (omega (arith, below))), as_number-more (f n) (g n) (more n (omega arith)))
+    omega (
+      arith,
+      count_below-more f g n (λ i below. more i (omega (arith, below))),
+      as_number-more (f n) (g n) (more n (omega arith)),
+    )
 
 -- and where one passes that did not, more are
-pub count_below-less : (f g : ℕ → Bool) (n k : ℕ) → ((i : ℕ) → i < n → f i ≡ true → g i ≡ true) → k < n → f k ≡ false → g k ≡ true
+pub count_below-less : (f g : ℕ → Bool) (n k : ℕ) → ((i : ℕ) → i < n → f i ≡ true → g i ≡ true) → k < n → f k ≡ false
+    → g k ≡ true
     → count_below f n < count_below g n
 count_below-less f g zero k more below fails passes = absurd (omega (arith, below))
 count_below-less f g (suc n) k more below fails passes =
     elim (cases_lt k n) [
       | inl before ↦
-          omega (arith, count_below-less f g n k (λ i inside. more i (omega (arith, inside))) before fails passes, as_number-more (f n) (g n) (more n (omega arith)))
+          omega (
+            arith,
+            count_below-less f g n k (λ i inside. more i (omega (arith, inside))) before fails passes,
+            as_number-more (f n) (g n) (more n (omega arith)),
+          )
       | inr last ↦
           let e : k ≡ n = omega (arith, last, below) in
           let none : as_number (f n) ≡ 0 = ap (λ i. as_number (f i)) (sym e) ∙ ap as_number fails in

@@ -1,5 +1,6 @@
 -- Depths and heights where no controller precedes itself: each is one more than the greatest that it rests on.
-use Rattle.std.proofs.Common.{◌≡◌, ℕ, zero, suc, ◌<◌, ◌≤◌, Bool, true, false, List, [], ◌∷◌, ◌++◌, length, Some, None, inl, inr, refl, sym, ◌∙◌, ap, arith, lt-ltb, get_or}
+use Rattle.std.proofs.Common.{◌≡◌, ℕ, zero, suc, ◌<◌, ◌≤◌, Bool, true, false, List, [], ◌∷◌, ◌++◌}
+use Rattle.std.proofs.Common.{length, Some, None, inl, inr, refl, sym, ◌∙◌, ap, arith, lt-ltb, get_or}
 use Rattle.std.specs.Prelude.{◌&&◌, if◌then◌else◌, position}
 use Rattle.std.specs.List.{Contains, position_or_len}
 use Rattle.std.proofs.lemmas.Bool.{cases_lt, and_parts, and_from, true≢false}
@@ -10,7 +11,8 @@ use Rattle.std.proofs.lemmas.List.Sums.{fails_before_first}
 use Rattle.cm_document.specs.Links.{is_among, refs_of, precedes, precedes_far, IsChain, first_in_loop}
 use Rattle.cm_document.specs.declared.description.CtlDesc.{CtlDesc}
 use Rattle.cm_document.proofs.ChainLemmas.{HasChain, within-HasChain, HasChain-far}
-use Rattle.cm_model.specs.Order.{Places, nobody, controller_at, precedes_at, greatest_below, rank_within, rank, depth, height}
+use Rattle.cm_model.specs.Order.{Places, nobody, controller_at, precedes_at}
+use Rattle.cm_model.specs.Order.{greatest_below, rank_within, rank, depth, height}
 use Rattle.chain_order.proofs.CountLemmas.{count_below, count_below-most, count_below-less}
 use Rattle.chain_order.proofs.RankLemmas.{greatest_below-same}
 
@@ -18,7 +20,8 @@ use Rattle.chain_order.proofs.RankLemmas.{greatest_below-same}
 
 pub greatest_below-most : (f : ℕ → ℕ) (most n : ℕ) → ((i : ℕ) → i < n → f i ≤ most) → greatest_below f n ≤ most
 greatest_below-most f most zero each = omega arith
-greatest_below-most f most (suc n) each = omega (arith, greatest_below-most f most n (λ i below. each i (omega (arith, below))), each n (omega arith))
+greatest_below-most f most (suc n) each =
+    omega (arith, greatest_below-most f most n (λ i below. each i (omega (arith, below))), each n (omega arith))
 
 pub greatest_below-at : (f : ℕ → ℕ) (n i : ℕ) → i < n → f i ≤ greatest_below f n
 greatest_below-at f zero i below = absurd (omega (arith, below))
@@ -66,32 +69,41 @@ module _ (linked : ℕ → ℕ → Bool) (n : ℕ) where
     settles zero p small =
         let none : greatest_below (λ q. if linked q p then suc (rank_within linked n 0 q) else 0) n ≤ 0 =
         greatest_below-most (λ q. if linked q p then suc (rank_within linked n 0 q) else 0) 0 n
-        (λ q below. given_none (linked q p) (rank_within linked n 0 q) (λ leads. omega (arith, small, rises q p below leads))) in
+        (λ q below. given_none (linked q p) (rank_within linked n 0 q)
+        (λ leads. omega (arith, small, rises q p below leads))) in
         omega (arith, none)
     settles (suc k) p small =
-        greatest_below-same (λ q. if linked q p then suc (rank_within linked n (suc k) q) else 0) (λ q. if linked q p then suc (rank_within linked n k q) else 0) n
-        (λ q below. given_same (linked q p) (rank_within linked n (suc k) q) (rank_within linked n k q) (λ leads. settles k q (omega (arith, small, rises q p below leads))))
+        greatest_below-same (λ q. if linked q p then suc (rank_within linked n (suc k) q) else 0)
+        (λ q. if linked q p then suc (rank_within linked n k q) else 0) n
+        (λ q below. given_same (linked q p) (rank_within linked n (suc k) q) (rank_within linked n k q)
+        (λ leads. settles k q (omega (arith, small, rises q p below leads))))
 
-    pub rank-settled : (p : ℕ) → low p ≤ n → rank linked n p ≡ greatest_below (λ q. if linked q p then suc (rank linked n q) else 0) n
+    pub rank-settled : (p : ℕ) → low p ≤ n
+        → rank linked n p ≡ greatest_below (λ q. if linked q p then suc (rank linked n q) else 0) n
     unfolding rank_within
     rank-settled p small = sym (settles n p small)
 
     pub rank-rises : (q p : ℕ) → q < n → low p ≤ n → linked q p ≡ true → rank linked n q < rank linked n p
     rank-rises q p below small leads =
-        let at : (if linked q p then suc (rank linked n q) else 0) ≤ greatest_below (λ q. if linked q p then suc (rank linked n q) else 0) n =
+        let at : (if linked q p then suc (rank linked n q) else 0)
+        ≤ greatest_below (λ q. if linked q p then suc (rank linked n q) else 0) n =
         greatest_below-at (λ q. if linked q p then suc (rank linked n q) else 0) n q below in
-        let is : (if linked q p then suc (rank linked n q) else 0) ≡ suc (rank linked n q) = given_one (linked q p) (rank linked n q) leads in
-        let settled : rank linked n p ≡ greatest_below (λ q. if linked q p then suc (rank linked n q) else 0) n = rank-settled p small in
+        let is : (if linked q p then suc (rank linked n q) else 0) ≡ suc (rank linked n q) =
+        given_one (linked q p) (rank linked n q) leads in
+        let settled : rank linked n p ≡ greatest_below (λ q. if linked q p then suc (rank linked n q) else 0) n =
+        rank-settled p small in
         omega (arith, at, is, settled)
 
 -- ---- Controllers at a distance
 
 -- where no place passes, none does
-position-none : {A : Type 0} (test : A → Bool) (xs : List A) → position test xs ≡ None → (k : ℕ) (d : A) → k < length xs → test (get_or xs k d) ≡ false
+position-none : {A : Type 0} (test : A → Bool) (xs : List A) → position test xs ≡ None → (k : ℕ) (d : A) → k < length xs
+    → test (get_or xs k d) ≡ false
 position-none test xs none k d below =
     elim (cases_lt (position_or_len test xs) (length xs)) [
       | inl inside ↦
-          (let found : position test xs ≡ Some (position_or_len test xs) = rw (lt-ltb (position_or_len test xs) (length xs) inside) refl in
+          (let found : position test xs ≡ Some (position_or_len test xs) =
+          rw (lt-ltb (position_or_len test xs) (length xs) inside) refl in
           let no : None ≡ Some (position_or_len test xs) = sym none ∙ found in cc)
       | inr past ↦ fails_before_first test xs k d (omega (arith, past, below))
     ]
@@ -108,7 +120,8 @@ module _ (cs : List CtlDesc) where
       elim (cases_lt q (length cs)) [
         | inl below ↦ below
         | inr past ↦
-            let none : precedes_at cs q p ≡ false = ap (λ c. precedes c (controller_at cs p)) (get_or_past cs q nobody past) in
+            let none : precedes_at cs q p ≡ false =
+            ap (λ c. precedes c (controller_at cs p)) (get_or_past cs q nobody past) in
             absurd (true≢false (sym leads ∙ none))
       ]
 
@@ -169,31 +182,40 @@ module _ (cs : List CtlDesc) where
     before-rises : (q p : ℕ) → precedes_at cs q p ≡ true → before q < before p
     before-rises q p leads =
         let there = precedes_at-first q p leads in
-        count_below-less (λ r. far r q) (λ r. far r p) (length cs) q (λ r below is. far_before r q p below is leads) there (no_loop q there) (far_one q p leads)
+        count_below-less (λ r. far r q) (λ r. far r p) (length cs) q (λ r below is. far_before r q p below is leads)
+        there (no_loop q there) (far_one q p leads)
 
     behind-rises : (q p : ℕ) → precedes_at cs p q ≡ true → behind q < behind p
     behind-rises q p leads =
         let there = precedes_at-second p q leads in
-        count_below-less (λ r. far q r) (λ r. far p r) (length cs) q (λ r below is. far_after p q r leads is) there (no_loop q there) (far_one p q leads)
+        count_below-less (λ r. far q r) (λ r. far p r) (length cs) q (λ r below is. far_after p q r leads is) there
+        (no_loop q there) (far_one p q leads)
 
     -- ---- Depths
 
     pub depth-settled : (set : Places) (p : ℕ)
-        → depth cs set p ≡ greatest_below (λ q. if set q && precedes_at cs q p then suc (depth cs set q) else 0) (length cs)
+        → depth cs set p
+        ≡ greatest_below (λ q. if set q && precedes_at cs q p then suc (depth cs set q) else 0) (length cs)
     depth-settled set p =
-        rank-settled (λ q r. set q && precedes_at cs q r) (length cs) before (λ q p below leads. before-rises q p (and_parts (set q) (precedes_at cs q p) leads).1)
+        rank-settled (λ q r. set q && precedes_at cs q r) (length cs) before
+        (λ q p below leads. before-rises q p (and_parts (set q) (precedes_at cs q p) leads).1)
         p (count_below-most (λ r. far r p) (length cs))
 
-    pub depth-rises : (set : Places) (q p : ℕ) → set q ≡ true → precedes_at cs q p ≡ true → depth cs set q < depth cs set p
+    pub depth-rises : (set : Places) (q p : ℕ) → set q ≡ true → precedes_at cs q p ≡ true
+        → depth cs set q < depth cs set p
     depth-rises set q p member leads =
-        rank-rises (λ q r. set q && precedes_at cs q r) (length cs) before (λ q p below leads. before-rises q p (and_parts (set q) (precedes_at cs q p) leads).1)
-        q p (precedes_at-first q p leads) (count_below-most (λ r. far r p) (length cs)) (and_from (set q) (precedes_at cs q p) member leads)
+        rank-rises (λ q r. set q && precedes_at cs q r) (length cs) before
+        (λ q p below leads. before-rises q p (and_parts (set q) (precedes_at cs q p) leads).1)
+        q p (precedes_at-first q p leads) (count_below-most (λ r. far r p) (length cs))
+        (and_from (set q) (precedes_at cs q p) member leads)
 
     -- ---- Heights
 
-    pub height-settled : (p : ℕ) → height cs p ≡ greatest_below (λ q. if precedes_at cs p q then suc (height cs q) else 0) (length cs)
+    pub height-settled : (p : ℕ)
+        → height cs p ≡ greatest_below (λ q. if precedes_at cs p q then suc (height cs q) else 0) (length cs)
     height-settled p =
-        rank-settled (λ q r. precedes_at cs r q) (length cs) behind (λ q p below leads. behind-rises q p leads) p (count_below-most (λ r. far p r) (length cs))
+        rank-settled (λ q r. precedes_at cs r q) (length cs) behind (λ q p below leads. behind-rises q p leads) p
+        (count_below-most (λ r. far p r) (length cs))
 
     pub height-rises : (q p : ℕ) → precedes_at cs p q ≡ true → height cs q < height cs p
     height-rises q p leads =

@@ -1,5 +1,6 @@
 -- Sets as flags.
-use Rattle.std.proofs.Common.{◌≡◌, ℕ, zero, suc, ◌+◌, ◌<◌, ◌≤◌, Bool, true, false, List, [], ◌∷◌, length, get_or, set, take, replicate, inl, inr, refl, sym, ◌∙◌, ap, ap₂, arith}
+use Rattle.std.proofs.Common.{◌≡◌, ℕ, zero, suc, ◌+◌, ◌<◌, ◌≤◌, Bool, true, false, List, [], ◌∷◌, length}
+use Rattle.std.proofs.Common.{get_or, set, take, replicate, inl, inr, refl, sym, ◌∙◌, ap, ap₂, arith}
 use Rattle.std.specs.Prelude.{◌&&◌, ◌||◌, ◌==◌}
 use mathlib.Core.Path.{fun_ext}
 use Rattle.std.specs.List.{list_any}
@@ -25,10 +26,12 @@ set_of-none (suc n) zero = refl
 set_of-none (suc n) (suc p) = set_of-none n p
 
 -- flags of a test that no place past the last passes are the set of what passes
-pub set_of-each_below : (test : ℕ → Bool) (n : ℕ) → ((p : ℕ) → n ≤ p → test p ≡ false) → set_of (each_below test n) ≡ test
+pub set_of-each_below : (test : ℕ → Bool) (n : ℕ) → ((p : ℕ) → n ≤ p → test p ≡ false)
+    → set_of (each_below test n) ≡ test
 set_of-each_below test n past = fun_ext (λ p. elim (cases_lt p n) [
   | inl below ↦ get_or-each_below test n p false below
-  | inr above ↦ get_or_past (each_below test n) p false (omega (arith, above, length-each_below test n)) ∙ sym (past p above)
+  | inr above ↦ get_or_past (each_below test n) p false (omega (arith, above, length-each_below test n))
+      ∙ sym (past p above)
 ])
 
 -- past the flags there is no member
@@ -42,25 +45,33 @@ or_exchanged false true = refl
 or_exchanged false false = refl
 
 -- one member more
-pub places_of-more : (ms : List Member) (i : ℕ) (d : Member) (old : Places) → i < length ms → ((p : ℕ) → old p ≡ places_of (take i ms) p)
+pub places_of-more : (ms : List Member) (i : ℕ) (d : Member) (old : Places) → i < length ms
+    → ((p : ℕ) → old p ≡ places_of (take i ms) p)
     → (p : ℕ) → with_one (get_or ms i d).place old p ≡ places_of (take (i + 1) ms) p
 places_of-more ms i d old below same p =
-    rw (same p) (or_exchanged ((get_or ms i d).place == p) (places_of (take i ms) p)) ∙ sym (list_any_more (λ m. m.place == p) ms i d below)
+    rw (same p) (or_exchanged ((get_or ms i d).place == p) (places_of (take i ms) p))
+    ∙ sym (list_any_more (λ m. m.place == p) ms i d below)
 
 -- flags that were made place by place
 pub flags-long : (flags : List Bool) (f : ℕ → Bool) (k n : ℕ) → flags ≡ each_below f k → k ≡ n → length flags ≡ n
 flags-long flags f k n made all = ap length made ∙ length-each_below f k ∙ all
 
-pub flags-set : (flags : List Bool) (f : ℕ → Bool) (k n : ℕ) → flags ≡ each_below f k → k ≡ n → ((p : ℕ) → n ≤ p → f p ≡ false) → set_of flags ≡ f
+pub flags-set : (flags : List Bool) (f : ℕ → Bool) (k n : ℕ) → flags ≡ each_below f k → k ≡ n
+    → ((p : ℕ) → n ≤ p → f p ≡ false) → set_of flags ≡ f
 flags-set flags f k n made all past = rw made (set_of-each_below f k (λ p above. past p (omega (arith, above, all))))
 
 -- one of the places that pass is a member exactly where some number below is and passes
-pub any-places_below : (set test : ℕ → Bool) (n : ℕ) → list_any set (places_below test n) ≡ some_below (λ q. set q && test q) n
+pub any-places_below : (set test : ℕ → Bool) (n : ℕ)
+    → list_any set (places_below test n) ≡ some_below (λ q. set q && test q) n
 any-places_below set test zero = refl
 any-places_below set test (suc n) =
     elim (cases_Bool (test n)) [
-      | inl passes ↦ rw (passes, places_below) (list_any-append set (places_below test n) (n ∷ []) ∙ ap₂ (λ a b. a || b) (any-places_below set test n) (member_alone (set n)))
-      | inr fails ↦ rw (fails, places_below) (rw (append-nil (places_below test n)) (any-places_below set test n ∙ none_more (some_below (λ q. set q && test q) n) (set n)))
+      | inl passes ↦ rw (passes, places_below)
+          (list_any-append set (places_below test n) (n ∷ [])
+          ∙ ap₂ (λ a b. a || b) (any-places_below set test n) (member_alone (set n)))
+      | inr fails ↦ rw (fails, places_below)
+          (rw (append-nil (places_below test n))
+          (any-places_below set test n ∙ none_more (some_below (λ q. set q && test q) n) (set n)))
     ]
   where
     member_alone : (a : Bool) → (a || false) ≡ (a && true)

@@ -1,10 +1,13 @@
 -- What a search has reached, step by step, and at its end.
-use Rattle.std.proofs.Common.{◌≡◌, ℕ, ◌+◌, ◌<◌, true, false, not, List, [], ◌∷◌, ◌++◌, length, get_or, set, take, replicate, ◌⊎◌, inl, inr, refl, sym, ◌∙◌, cond, arith, length-append, length-set, zero, suc}
+use Rattle.std.proofs.Common.{◌≡◌, ℕ, ◌+◌, ◌<◌, true, false, not, List, [], ◌∷◌, ◌++◌}
+use Rattle.std.proofs.Common.{length, get_or, set, take, replicate, ◌⊎◌, inl, inr, refl}
+use Rattle.std.proofs.Common.{sym, ◌∙◌, cond, arith, length-append, length-set, zero, suc}
 use Rattle.std.specs.Prelude.{◌↔◌}
 use Rattle.std.specs.List.{All, Contains}
 use Rattle.std.proofs.lemmas.Bool.{cases_eq, cases_lt, false≢true}
 use Rattle.std.proofs.lemmas.List.{get_or-set_same, get_or-set_other, get_or_past, take_more, length-replicate}
-use Rattle.std.proofs.lemmas.List.Elements.{All-nil, All-cons, All-append, All-weaker, All-contains, Contains-push, Contains-push_cases, Contains-append_left, Contains-append_right}
+use Rattle.std.proofs.lemmas.List.Elements.{All-nil, All-cons, All-append, All-weaker, All-contains, Contains-push}
+use Rattle.std.proofs.lemmas.List.Elements.{Contains-push_cases, Contains-append_left, Contains-append_right}
 use Rattle.std.proofs.lemmas.List.Sums.{sum_by-set}
 use Rattle.chain_order.specs.Links.{linked}
 use Rattle.chain_order.specs.Search.{Searched, IsReached, Spreads}
@@ -39,7 +42,8 @@ Spreads-known s place was =
     }
 
 -- a step to a place that was not
-pub Spreads-fresh : (old new : Searched) (place : ℕ) → place < length old.reached → get_or old.reached place false ≡ false
+pub Spreads-fresh : (old new : Searched) (place : ℕ) → place < length old.reached
+    → get_or old.reached place false ≡ false
     → new.reached ≡ set old.reached place true → new.waiting ≡ old.waiting ++ place ∷ [] → Spreads old new (place ∷ [])
 Spreads-fresh old new place below was marked waits =
     let here : IsReached new place = rw marked (get_or-set_same old.reached place true false below) in
@@ -53,7 +57,9 @@ Spreads-fresh old new place below was marked waits =
         | inr other ↦ inl (sym (elsewhere p other) ∙ now)
       ];
       still_waiting = λ p waiting. rw waits (Contains-append_left old.waiting (place ∷ []) p waiting);
-      waiting_reached = λ p waiting. elim (Contains-push_cases old.waiting place p (rw waits at waiting)) [ inl before ↦ inl before | inr e ↦ inr (rw (← e) here) ];
+      waiting_reached =
+          λ p waiting. elim (Contains-push_cases old.waiting place p (rw waits at waiting))
+          [ inl before ↦ inl before | inr e ↦ inr (rw (← e) here) ];
       places_kept = rw marked (length-set old.reached place true);
       turns_kept =
           let moved = sum_by-set (λ b. cond (not b) 1 0) old.reached place true false below in
@@ -63,7 +69,8 @@ Spreads-fresh old new place below was marked waits =
 -- one step and another
 Spreads-trans : (a b c : Searched) (ps qs : List ℕ) → Spreads a b ps → Spreads b c qs → Spreads a c (ps ++ qs)
 Spreads-trans a b c ps qs first second = record {
-  arrived = All-append (IsReached c) ps qs (All-weaker (IsReached b) (IsReached c) second.kept ps first.arrived) second.arrived;
+  arrived = All-append (IsReached c) ps qs (All-weaker (IsReached b) (IsReached c) second.kept ps first.arrived)
+      second.arrived;
   kept = λ p was. second.kept p (first.kept p was);
   fresh = λ p now. elim (second.fresh p now) [
     | inl between ↦
@@ -90,7 +97,8 @@ Spreads_more a b c places i below first second =
 
 -- ---- The whole search
 
--- The start leads to all that was reached. The links of the start were followed, and those of each reached place that no longer waits.
+-- The start leads to all that was reached. The links of the start were followed, and those of each reached place that
+-- no longer waits.
 pub record IsSearch (links : List (List ℕ)) (start : ℕ) (s : Searched) : Type 0 where
   pub places : length s.reached ≡ length links
   pub sound : (p : ℕ) → IsReached s p → Leads links start p
@@ -99,7 +107,8 @@ pub record IsSearch (links : List (List ℕ)) (start : ℕ) (s : Searched) : Typ
   pub followed : (p : ℕ) → IsReached s p → Contains s.waiting p ⊎ All (IsReached s) (linked links p)
 
 -- a place behind the end of a way is led to as well
-way_more : (links : List (List ℕ)) (p q r : ℕ) (via : List ℕ) → IsWay links p via q → Contains (linked links q) r → Leads links p r
+way_more : (links : List (List ℕ)) (p q r : ℕ) (via : List ℕ) → IsWay links p via q → Contains (linked links q) r
+    → Leads links p r
 way_more links p q r [] way next = (q ∷ [], (way, next))
 way_more links p q r (first ∷ more) way next =
     let rest = way_more links first q r more way.1 next in
@@ -112,24 +121,32 @@ none_reached (suc n) zero = refl
 none_reached (suc n) (suc p) = none_reached n p
 
 -- a new search that follows the links of the start
-pub IsSearch-begun : (links : List (List ℕ)) (start : ℕ) (old new : Searched) → old ≡ record { reached = replicate (length links) false; waiting = [] }
+pub IsSearch-begun : (links : List (List ℕ)) (start : ℕ) (old new : Searched)
+    → old ≡ record { reached = replicate (length links) false; waiting = [] }
     → Spreads old new (linked links start) → IsSearch links start new
 IsSearch-begun links start old new empty step =
-    let unreached : (p : ℕ) → IsReached old p → ⊥ = λ (p : ℕ) (was : IsReached old p). false≢true (sym (none_reached (length links) p) ∙ (rw empty at was)) in
+    let unreached : (p : ℕ) → IsReached old p
+    → ⊥ = λ (p : ℕ) (was : IsReached old p). false≢true (sym (none_reached (length links) p) ∙ (rw empty at was)) in
     record {
       places = step.places_kept ∙ (rw empty (length-replicate (length links) false));
-      sound = λ p now. elim (step.fresh p now) [ inl was ↦ absurd (unreached p was) | inr (there, waits) ↦ ([], there) ];
-      waits = λ p waits. elim (step.waiting_reached p waits) [ inl was ↦ absurd (omega (arith, (rw empty at was).1)) | inr now ↦ now ];
+      sound = λ p now. elim (step.fresh p now)
+          [ inl was ↦ absurd (unreached p was) | inr (there, waits) ↦ ([], there) ];
+      waits = λ p waits. elim (step.waiting_reached p waits)
+          [ inl was ↦ absurd (omega (arith, (rw empty at was).1)) | inr now ↦ now ];
       begun = step.arrived;
-      followed = λ p now. elim (step.fresh p now) [ inl was ↦ absurd (unreached p was) | inr (there, waits) ↦ inl waits ];
+      followed = λ p now. elim (step.fresh p now)
+          [ inl was ↦ absurd (unreached p was) | inr (there, waits) ↦ inl waits ];
     }
 
 -- a place no longer waits, and its links were followed
 pub IsSearch-followed : (links : List (List ℕ)) (start place : ℕ) (old popped new : Searched) → IsSearch links start old
-    → popped.reached ≡ old.reached → old.waiting ≡ popped.waiting ++ place ∷ [] → Spreads popped new (linked links place) → IsSearch links start new
+    → popped.reached ≡ old.reached → old.waiting ≡ popped.waiting ++ place ∷ []
+    → Spreads popped new (linked links place) → IsSearch links start new
 IsSearch-followed links start place old popped new so_far same took step =
-    let before : (p : ℕ) → IsReached popped p → IsReached old p = λ (p : ℕ) (was : IsReached popped p). rw same at was in
-    let after : (p : ℕ) → IsReached old p → IsReached new p = λ (p : ℕ) (was : IsReached old p). step.kept p (rw same was) in
+    let before : (p : ℕ) → IsReached popped p
+    → IsReached old p = λ (p : ℕ) (was : IsReached popped p). rw same at was in
+    let after : (p : ℕ) → IsReached old p
+    → IsReached new p = λ (p : ℕ) (was : IsReached old p). step.kept p (rw same was) in
     let taken : Contains old.waiting place = rw took (Contains-push popped.waiting place) in
     let way = so_far.sound place (so_far.waits place taken) in
     record {
@@ -158,7 +175,8 @@ IsSearch-followed links start place old popped new so_far same took step =
     }
 
 -- a place that waits is a place
-pub waiting_below : (links : List (List ℕ)) (start place : ℕ) (rest : List ℕ) (s : Searched) → IsSearch links start s → s.waiting ≡ rest ++ place ∷ [] → place < length links
+pub waiting_below : (links : List (List ℕ)) (start place : ℕ) (rest : List ℕ) (s : Searched) → IsSearch links start s
+    → s.waiting ≡ rest ++ place ∷ [] → place < length links
 waiting_below links start place rest s search took =
     let reached = search.waits place (rw took (Contains-push rest place)) in
     elim (cases_lt place (length s.reached)) [
@@ -178,6 +196,9 @@ way_reached links start s search none p q (next ∷ more) here way =
     ]
 
 -- where none waits, the start leads to exactly what was reached
-pub IsSearch-ended : (links : List (List ℕ)) (start : ℕ) (s : Searched) → IsSearch links start s → s.waiting ≡ [] → (q : ℕ) → IsReached s q ↔ Leads links start q
-IsSearch-ended links start s search none q =
-    (search.sound q, λ (way : Leads links start q). way_reached links start s search none start q way.0 search.begun way.1)
+pub IsSearch-ended : (links : List (List ℕ)) (start : ℕ) (s : Searched) → IsSearch links start s → s.waiting ≡ []
+    → (q : ℕ) → IsReached s q ↔ Leads links start q
+IsSearch-ended links start s search none q = (
+  search.sound q,
+  λ (way : Leads links start q). way_reached links start s search none start q way.0 search.begun way.1,
+)

@@ -1,5 +1,6 @@
 -- Ways over the links of controllers are the chains among them.
-use Rattle.std.proofs.Common.{◌≡◌, ℕ, ◌<◌, ◌≤◌, true, false, List, [], ◌∷◌, length, get_or, Option, Some, None, inl, inr, refl, sym, ◌+◌, ◌∙◌, arith, lt-ltb, le-ltb}
+use Rattle.std.proofs.Common.{◌≡◌, ℕ, ◌<◌, ◌≤◌, true, false, List, [], ◌∷◌, length, get_or, Option}
+use Rattle.std.proofs.Common.{Some, None, inl, inr, refl, sym, ◌+◌, ◌∙◌, arith, lt-ltb, le-ltb}
 use Rattle.std.specs.Prelude.{◌↔◌}
 use Rattle.std.specs.List.{All, Contains}
 use Rattle.std.proofs.lemmas.Bool.{cases_eq, false_from_ne_true}
@@ -24,11 +25,15 @@ module _ (cs : List CtlDesc) (other : CtlDesc) where
   way_chain p q [] below way = ([], All-nil (Contains cs), (linked-precedes cs other p q below way).1)
   way_chain p q (next ∷ more) below way =
       let first = linked-precedes cs other p next below way.0 in
-      let rest = way_chain next q more first.0 way.1 in
-      (at next ∷ rest.0, All-cons (Contains cs) (at next) rest.0 (Contains-get_or cs next other first.0) rest.1, (first.1, rest.2))
+      let rest = way_chain next q more first.0 way.1 in (
+        at next ∷ rest.0,
+        All-cons (Contains cs) (at next) rest.0 (Contains-get_or cs next other first.0) rest.1,
+        (first.1, rest.2),
+      )
 
   -- a chain is a way
-  chain_way : (p q : ℕ) (c : CtlDesc) (es : List CtlDesc) → at p ≡ c → p < length cs → q < length cs → All (Contains cs) es → IsChain c es (at q) → Leads (links_of cs) p q
+  chain_way : (p q : ℕ) (c : CtlDesc) (es : List CtlDesc) → at p ≡ c → p < length cs → q < length cs
+      → All (Contains cs) es → IsChain c es (at q) → Leads (links_of cs) p q
   chain_way p q c [] here below within known chain = ([], precedes-linked cs other p q below within (rw here chain))
   chain_way p q c (e ∷ es) here below within known chain =
       let next = All-head (Contains cs) e es known in
@@ -41,11 +46,13 @@ module _ (cs : List CtlDesc) (other : CtlDesc) where
   back_iff_far p below =
       let far = far_iff_HasChain cs (at p) (at p) (Contains-get_or cs p other below) in (
         λ (way : Leads (links_of cs) p p). far.1 (way_chain p p way.0 below way.1),
-        λ (yes : precedes_far cs (at p) (at p) ≡ true). let chain = far.0 yes in chain_way p p (at p) chain.0 refl below below chain.1 chain.2,
+        λ (yes : precedes_far cs (at p) (at p) ≡ true). let chain =
+            far.0 yes in chain_way p p (at p) chain.0 refl below below chain.1 chain.2,
       )
 
 -- where a place does not lead back either, none before the next one does
-pub none_more : (links : List (List ℕ)) (place : ℕ) → NoneBefore links place → (Leads links place place → ⊥) → NoneBefore links (place + 1)
+pub none_more : (links : List (List ℕ)) (place : ℕ) → NoneBefore links place → (Leads links place place → ⊥)
+    → NoneBefore links (place + 1)
 none_more links place none here k before =
     elim (cases_eq k place) [
       | inl e ↦ rw e here
@@ -59,11 +66,13 @@ none_far cs other place most none k before =
     false_from_ne_true _ (λ far. none k before ((back_iff_far cs other k (omega arith)).1 far))
 
 -- the first place that leads back is the first loop
-first_back : (cs : List CtlDesc) (place : ℕ) → place < length cs → NoneBefore (links_of cs) place → Leads (links_of cs) place place → first_in_loop cs ≡ Some place
+first_back : (cs : List CtlDesc) (place : ℕ) → place < length cs → NoneBefore (links_of cs) place
+    → Leads (links_of cs) place place → first_in_loop cs ≡ Some place
 first_back [] place below none back = absurd (omega (arith, below))
 first_back (c ∷ cs) place below none back =
     let all : List CtlDesc = c ∷ cs in
-    let e = position_or_len_is (λ d. precedes_far all d d) all place c (omega (arith, below)) (none_far all c place (omega (arith, below)) none) (λ _. (back_iff_far all c place below).0 back) in
+    let e = position_or_len_is (λ d. precedes_far all d d) all place c (omega (arith, below))
+    (none_far all c place (omega (arith, below)) none) (λ _. (back_iff_far all c place below).0 back) in
     rw (e, lt-ltb _ _ below) refl
 
 -- where no place leads back there is no loop
@@ -71,11 +80,13 @@ none_back : (cs : List CtlDesc) → NoneBefore (links_of cs) (length cs) → fir
 none_back [] none = refl
 none_back (c ∷ cs) none =
     let all : List CtlDesc = c ∷ cs in
-    let e = position_or_len_is (λ d. precedes_far all d d) all (length all) c (omega arith) (none_far all c (length all) (omega arith) none) (λ beyond. absurd (omega (arith, beyond))) in
+    let e = position_or_len_is (λ d. precedes_far all d d) all (length all) c (omega arith)
+    (none_far all c (length all) (omega arith) none) (λ beyond. absurd (omega (arith, beyond))) in
     rw (e, le-ltb (length all) (length all) (omega arith)) refl
 
 -- what is found over the links of controllers is the first loop among them
-pub first_back_in_loop : (cs : List CtlDesc) (links : List (List ℕ)) (found : Option ℕ) → links ≡ links_of cs → IsFirstBack links found → found ≡ first_in_loop cs
+pub first_back_in_loop : (cs : List CtlDesc) (links : List (List ℕ)) (found : Option ℕ) → links ≡ links_of cs
+    → IsFirstBack links found → found ≡ first_in_loop cs
 first_back_in_loop cs links found same first = by found (rw same at first)
   where
     count : length (links_of cs) ≡ length cs

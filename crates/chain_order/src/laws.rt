@@ -1,9 +1,11 @@
 //! Laws of order: each is the contract of a function that does nothing.
 
-ghost use Rattle.std.specs.Prelude.{◌≡◌, ◌≢◌, ℕ, suc, ◌<◌, ◌&&◌, true, false, if◌then◌else◌, List, length, map, None, All, AllPairs, IsPermutation};
+ghost use Rattle.std.specs.Prelude.{◌≡◌, ◌≢◌, ℕ, suc, ◌<◌, ◌&&◌, true, false, if◌then◌else◌};
+ghost use Rattle.std.specs.Prelude.{List, length, map, None, All, AllPairs, IsPermutation};
 ghost use Rattle.cm_document.specs.Links.{first_in_loop};
 ghost use Rattle.cm_document.specs.declared.description.CtlDesc.{CtlDesc};
-ghost use Rattle.cm_model.specs.Order.{Places, precedes_at, places_of, greatest_below, depth, height, in_order, run_order};
+ghost use Rattle.cm_model.specs.Order.{Places, precedes_at, places_of, greatest_below};
+ghost use Rattle.cm_model.specs.Order.{depth, height, in_order, run_order};
 ghost use Rattle.cm_model.specs.declared.member.Member.{Member};
 ghost use Rattle.chain_order.specs.Laws.{GoesBefore, ordered};
 
@@ -14,8 +16,8 @@ pub fn an_order_has_each_member_once()
     ensures in_a_set { (cs : List CtlDesc) (set : Places) (ms : List Member) → IsPermutation ms (in_order cs set ms) }
 {}
 
-/// Controllers with serials of their own are sorted by depth, and those of one depth by serial. Where it is told which set the depths
-/// are taken in, those that stand by serial are.
+/// Controllers with serials of their own are sorted by depth, and those of one depth by serial. Where it is told which
+/// set the depths are taken in, those that stand by serial are.
 pub fn an_order_is_sorted_by_depth_and_then_by_serial()
     ensures sorted { (cs : List CtlDesc) (ms : List Member) → AllPairs (λ a b. a.serial ≢ b.serial) ms
         → AllPairs (GoesBefore cs (places_of ms)) (ordered cs ms) }
@@ -32,9 +34,9 @@ pub fn what_precedes_comes_first()
         → AllPairs (λ a b. precedes_at cs b.place a.place ≡ false) (in_order cs set ms) }
 {}
 
-/// Where no described controller precedes itself at some distance, a depth is one more than the greatest depth of a member that
-/// precedes the controller, and a height one more than the greatest of those that it precedes; they are 0 where there is none. So the
-/// bound on links in their definitions, the number of controllers, leaves nothing out.
+/// Where no described controller precedes itself at some distance, a depth is one more than the greatest depth of a
+/// member that precedes the controller, and a height one more than the greatest of those that it precedes; they are 0
+/// where there is none. So the bound on links in their definitions, the number of controllers, leaves nothing out.
 pub fn depths_and_heights_follow_the_links()
     ensures depth { (cs : List CtlDesc) (set : Places) (p : ℕ) → first_in_loop cs ≡ None → depth cs set p
         ≡ greatest_below (λ q. if set q && precedes_at cs q p then suc (depth cs set q) else 0) (length cs) }

@@ -1,5 +1,5 @@
-//! The order among described controllers: which precede which, whether one precedes itself, and in which order and how often
-//! active ones are updated. Claims are resolved to places once, and what remains goes over places.
+//! The order among described controllers: which precede which, whether one precedes itself, and in which order and how
+//! often active ones are updated. Claims are resolved to places once, and what remains goes over places.
 #![tactic(auto)]
 
 pub use links::{Links, exports, precedes};

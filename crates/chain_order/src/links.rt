@@ -20,8 +20,8 @@ use std::marker::Model;
 #[derive(Debug, Drop)]
 pub struct Links {
     rows: Seq<Seq<u32>>,
-    /// The places in a sequence in which ranks are found at once, each behind those that it is linked to; none where it was not worked
-    /// out. Nothing but speed rests on it.
+    /// The places in a sequence in which ranks are found at once, each behind those that it is linked to; none where it
+    /// was not worked out. Nothing but speed rests on it.
     sequence: Vec<u32>,
 }
 
@@ -187,7 +187,8 @@ pub fn exports(controller: &CtlDesc, interface: &IfaceName) -> bool
     is_any_reference(interface, &controller.name, controller.exported_for())
 }
 
-/// Whether a claim is a reference of the controller of this name, which exports one for each of its own interfaces here.
+/// Whether a claim is a reference of the controller of this name, which exports one for each of its own interfaces
+/// here.
 fn is_any_reference(claim: &IfaceName, controller: &Name, own: &[IfaceName]) -> bool
     ensures { result ≡ list_any (λ i. same_interface claim.now (reference_for controller.now i)) own.now }
 {

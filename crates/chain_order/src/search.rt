@@ -1,6 +1,7 @@
 //! A search over links, from one place.
 
-ghost use Rattle.std.specs.Prelude.{◌≡◌, ◌↔◌, ◌<◌, [], ◌∷◌, ◌++◌, false, length, replicate, slice_index_or, IsTrue, IfNone, IfOk, OnOk, All};
+ghost use Rattle.std.specs.Prelude.{◌≡◌, ◌↔◌, ◌<◌, [], ◌∷◌, ◌++◌, false, length, replicate};
+ghost use Rattle.std.specs.Prelude.{slice_index_or, IsTrue, IfNone, IfOk, OnOk, All};
 ghost use Rattle.std.specs.Option.{option_to_list};
 ghost use Rattle.chain_order.specs.Search.{Searched, Spreads};
 ghost use Rattle.chain_order.specs.Ways.{Leads};

@@ -1,5 +1,6 @@
 -- What the desk keeps of its state after a commit, after a move of a component, and after a cycle.
-use Rattle.std.proofs.Common.{◌≡◌, ℕ, ◌+◌, Bool, true, false, Result, Ok, Err, List, [], length, map, Option, Some, None, refl, sym, ap, subst, ◌∙◌, arith, vec_capacity}
+use Rattle.std.proofs.Common.{◌≡◌, ℕ, ◌+◌, Bool, true, false, Result, Ok, Err, List, [], length, map}
+use Rattle.std.proofs.Common.{Option, Some, None, refl, sym, ap, subst, ◌∙◌, arith, vec_capacity}
 use Rattle.std.specs.Prelude.{not, is_some, Box, IfSome, IsSomeAnd, OnErr}
 use Rattle.std.specs.List.{AllByRecursion}
 use Rattle.std.specs.declared.alloc.Global.{Global}
@@ -30,7 +31,8 @@ use Rattle.rt_flight.specs.Workspaces.{IsFitted}
 use Rattle.rt_flight.specs.declared.context.CycleContext.{CycleContext}
 use Rattle.rt_flight.specs.declared.robot.Robot.{Robot}
 use Rattle.stop_plan.specs.Ending.{HasFlags, told_in, nobody_again}
-use Rattle.cm_desk.specs.CycleResources.{Base, base_of, stand_ins_for, HasLines, IsAtHome, IsBased, IsHome, IsMadeReady, IsRewired}
+use Rattle.cm_desk.specs.CycleResources.{Base, base_of, stand_ins_for, HasLines, IsAtHome}
+use Rattle.cm_desk.specs.CycleResources.{IsBased, IsHome, IsMadeReady, IsRewired}
 use Rattle.cm_desk.specs.End.{HasSettled}
 use Rattle.cm_desk.specs.ActiveSet.{Listed, serial_in}
 use Rattle.cm_desk.specs.CycleNeeds.{stands_for}
@@ -39,7 +41,8 @@ use Rattle.cm_desk.specs.declared.resources.CycleResources.{CycleResources}
 use Rattle.cm_desk.specs.declared.resources.CycleBuffers.{CycleBuffers}
 use Rattle.cm_desk.specs.declared.works.Works.TheInside.{Inside}
 use Rattle.cm_desk.proofs.Insides.{base_in, state_of}
-use Rattle.cm_desk.proofs.StayLemmas.{all_staying, commit_stays, landed_stays, count_stays, described_stay, divided_stay}
+use Rattle.cm_desk.proofs.StayLemmas.{all_staying, commit_stays, landed_stays}
+use Rattle.cm_desk.proofs.StayLemmas.{count_stays, described_stay, divided_stay}
 
 -- What else is kept of a base goes by these parts of it, where it is at home.
 pub record IsSameBase (before after : Base) : Type 0 where
@@ -57,7 +60,8 @@ pub record IsSameBase (before after : Base) : Type 0 where
   pub room : after.room ≡ before.room
 
 -- so it is of resources whose hardware changed
-pub rewired : (b b' : CycleResources) (box_places : ℕ) → IsRewired b b' → IsSameBase (base_of b box_places) (base_of b' box_places)
+pub rewired : (b b' : CycleResources) (box_places : ℕ) → IsRewired b b'
+    → IsSameBase (base_of b box_places) (base_of b' box_places)
 rewired b b' box_places is = record {
   robot = is.robot;
   ending = is.ending;
@@ -74,32 +78,52 @@ rewired b b' box_places is = record {
 }
 
 -- where what works in a cycle comes to rest again, with other hardware
-pub at_rest : (b left b' : CycleResources) (k r : Box CycleContext Global) (h : CycleContext) → IsHome b.robot.value b.ending.value b.members.value.items b.erred.value.items b.next_lists.value k → left ≡ record b { idle_context = None; room = left.room } → left.room ≡ b.room
+pub at_rest : (b left b' : CycleResources) (k r : Box CycleContext Global) (h : CycleContext)
+    → IsHome b.robot.value b.ending.value b.members.value.items b.erred.value.items b.next_lists.value k
+    → left ≡ record b { idle_context = None; room = left.room } → left.room ≡ b.room
     → h ≡ k.value → r.value ≡ record h { robot = record h.robot { hardware = r.value.robot.hardware } }
-    → b' ≡ record left { idle_context = Some r; robot = b'.robot; told = false } → b'.robot.value ≡ r.value.robot → IsRewired b b'
+    → b' ≡ record left { idle_context = Some r; robot = b'.robot; told = false } → b'.robot.value ≡ r.value.robot
+    → IsRewired b b'
 at_rest b left b' k r h home away room taken same rests robot =
     let aboard : h.robot ≡ b.robot.value = ap (λ (x : CycleContext). x.robot) taken ∙ home.robot in
     let now : r.value.robot ≡ record b.robot.value { hardware = r.value.robot.hardware } =
-    ap (λ (x : CycleContext). x.robot) same ∙ ap (λ (g : Robot). record g { hardware = r.value.robot.hardware }) aboard in
-    let ending : b'.ending.value ≡ b.ending.value = ap (λ (x : CycleResources). x.ending.value) rests ∙ ap (λ (x : CycleResources). x.ending.value) away in
-    let sets : r.value.ending ≡ b.ending.value = ap (λ (x : CycleContext). x.ending) same ∙ ap (λ (x : CycleContext). x.ending) taken ∙ home.ending in
+    ap (λ (x : CycleContext). x.robot) same
+    ∙ ap (λ (g : Robot). record g { hardware = r.value.robot.hardware }) aboard in
+    let ending : b'.ending.value ≡ b.ending.value =
+    ap (λ (x : CycleResources). x.ending.value) rests ∙ ap (λ (x : CycleResources). x.ending.value) away in
+    let sets : r.value.ending ≡ b.ending.value =
+    ap (λ (x : CycleContext). x.ending) same ∙ ap (λ (x : CycleContext). x.ending) taken ∙ home.ending in
     let idle_context : b'.idle_context ≡ Some r = ap (λ (x : CycleResources). x.idle_context) rests in
-    let members : b'.members.value.items ≡ b.members.value.items = ap (λ (x : CycleResources). x.members.value.items) rests ∙ ap (λ (x : CycleResources). x.members.value.items) away in
-    let erred : b'.erred.value.items ≡ b.erred.value.items = ap (λ (x : CycleResources). x.erred.value.items) rests ∙ ap (λ (x : CycleResources). x.erred.value.items) away in
-    let next_lists : b'.next_lists.value ≡ b.next_lists.value = ap (λ (x : CycleResources). x.next_lists.value) rests ∙ ap (λ (x : CycleResources). x.next_lists.value) away in
-    let room_is : r.value.room ≡ k.value.room = ap (λ (x : CycleContext). x.room) same ∙ ap (λ (x : CycleContext). x.room) taken in
+    let members : b'.members.value.items ≡ b.members.value.items =
+    ap (λ (x : CycleResources). x.members.value.items) rests
+    ∙ ap (λ (x : CycleResources). x.members.value.items) away in
+    let erred : b'.erred.value.items ≡ b.erred.value.items =
+    ap (λ (x : CycleResources). x.erred.value.items) rests ∙ ap (λ (x : CycleResources). x.erred.value.items) away in
+    let next_lists : b'.next_lists.value ≡ b.next_lists.value =
+    ap (λ (x : CycleResources). x.next_lists.value) rests ∙ ap (λ (x : CycleResources). x.next_lists.value) away in
+    let room_is : r.value.room ≡ k.value.room =
+    ap (λ (x : CycleContext). x.room) same ∙ ap (λ (x : CycleContext). x.room) taken in
     record {
-      robot = robot ∙ now ∙ ap (λ (w : Wired). record b.robot.value { hardware = w }) (sym (ap (λ (g : Robot). g.hardware) robot));
+      robot = robot ∙ now
+          ∙ ap (λ (w : Wired). record b.robot.value { hardware = w }) (sym (ap (λ (g : Robot). g.hardware) robot));
       ending = ending;
-      home = subst (λ (o : Option (Box CycleContext Global)). IsSomeAnd o (IsHome b'.robot.value b'.ending.value b'.members.value.items b'.erred.value.items b'.next_lists.value)) (sym idle_context) (record {
-        robot = sym robot;
-        ending = sets ∙ sym ending;
-        order = ap (λ (x : CycleContext). x.order.items) same ∙ ap (λ (x : CycleContext). x.order.items) taken ∙ home.order ∙ sym members;
-        erred = ap (λ (x : CycleContext). x.erred.items) same ∙ ap (λ (x : CycleContext). x.erred.items) taken ∙ home.erred ∙ sym erred;
-        next_lists = ap (λ (x : CycleContext). x.lists) same ∙ ap (λ (x : CycleContext). x.lists) taken ∙ home.next_lists ∙ sym next_lists;
-        told = subst (λ (o : Option RecordRoom). IfSome o TellsNothing) (sym room_is) home.told;
-      });
-      mails = ap (λ (x : CycleResources). x.mails.value.items) rests ∙ ap (λ (x : CycleResources). x.mails.value.items) away;
+      home = subst
+          (λ (o : Option (Box CycleContext Global)). IsSomeAnd o
+          (IsHome b'.robot.value b'.ending.value b'.members.value.items b'.erred.value.items b'.next_lists.value))
+          (sym idle_context) (record {
+            robot = sym robot;
+            ending = sets ∙ sym ending;
+            order = ap (λ (x : CycleContext). x.order.items) same ∙ ap (λ (x : CycleContext). x.order.items) taken
+                ∙ home.order ∙ sym members;
+            erred = ap (λ (x : CycleContext). x.erred.items) same ∙ ap (λ (x : CycleContext). x.erred.items) taken
+                ∙ home.erred ∙ sym erred;
+            next_lists =
+                ap (λ (x : CycleContext). x.lists) same ∙ ap (λ (x : CycleContext). x.lists) taken ∙ home.next_lists
+                ∙ sym next_lists;
+            told = subst (λ (o : Option RecordRoom). IfSome o TellsNothing) (sym room_is) home.told;
+          });
+      mails = ap (λ (x : CycleResources). x.mails.value.items) rests
+          ∙ ap (λ (x : CycleResources). x.mails.value.items) away;
       buffers = ap (λ (x : CycleResources). x.buffers) rests ∙ ap (λ (x : CycleResources). x.buffers) away;
       members = members;
       erred = erred;
@@ -111,20 +135,27 @@ at_rest b left b' k r h home away room taken same rests robot =
     }
 
 -- where no cycle is aloft all is at home
-home_from : (P : Box CycleContext Global → Type 0) (o : Option (Box CycleContext Global)) → is_some o ≡ true → IfSome o P → IsSomeAnd o P
+home_from : (P : Box CycleContext Global → Type 0) (o : Option (Box CycleContext Global)) → is_some o ≡ true
+    → IfSome o P → IsSomeAnd o P
 home_from P None some home = cc
 home_from P (Some h) some home = home
 
-pub at_home : (d : Description) (order : List Member) (b : CycleResources) (box_places : ℕ) (aloft : Bool) → IsBased d aloft order (base_of b box_places) → aloft ≡ false → IsAtHome b
-at_home d order b box_places aloft based down = home_from (IsHome b.robot.value b.ending.value b.members.value.items b.erred.value.items b.next_lists.value) b.idle_context (based.home_is ∙ ap not down) based.home
+pub at_home : (d : Description) (order : List Member) (b : CycleResources) (box_places : ℕ) (aloft : Bool)
+    → IsBased d aloft order (base_of b box_places) → aloft ≡ false → IsAtHome b
+at_home d order b box_places aloft based down =
+    home_from (IsHome b.robot.value b.ending.value b.members.value.items b.erred.value.items b.next_lists.value)
+    b.idle_context (based.home_is ∙ ap not down) based.home
 
-some_home : (P : Box CycleContext Global → Type 0) (o : Option (Box CycleContext Global)) → IsSomeAnd o P → (is_some o ≡ true) × IfSome o P
+some_home : (P : Box CycleContext Global → Type 0) (o : Option (Box CycleContext Global)) → IsSomeAnd o P
+    → (is_some o ≡ true) × IfSome o P
 some_home P None home = absurd home
 some_home P (Some h) home = (refl, home)
 
-based_with : (d : Description) (was order : List Member) (before after : Base) → IsBased d false was before → IsSameBase before after → IsBased d false order after
+based_with : (d : Description) (was order : List Member) (before after : Base) → IsBased d false was before
+    → IsSameBase before after → IsBased d false order after
 based_with d was order before after based same =
-    let home = some_home (IsHome after.robot after.ending after.members after.erred after.next_lists) after.idle_context same.home in
+    let home = some_home (IsHome after.robot after.ending after.members after.erred after.next_lists) after.idle_context
+    same.home in
     let places : after.robot.places ≡ before.robot.places = ap (λ (g : Robot). g.places) same.robot in
     record {
       wide = same.room ∙ based.wide;
@@ -142,7 +173,8 @@ based_with d was order before after based same =
       box_places = λ aloft. cc;
     }
 
-worked_with : (d : Description) (names : List (List ℕ)) (before after : Robot) → IsWorkedOut d names before → after ≡ record before { hardware = after.hardware } → IsWorkedOut d names after
+worked_with : (d : Description) (names : List (List ℕ)) (before after : Robot) → IsWorkedOut d names before
+    → after ≡ record before { hardware = after.hardware } → IsWorkedOut d names after
 worked_with d names before after is same = record {
   valid = is.valid;
   named = is.named;
@@ -154,27 +186,44 @@ worked_with d names before after is same = record {
 -- ---- A commit
 
 -- with these controllers and this hardware the state is the one after the commit
-pub view_committed : (s : State) (set again : Places) (slots slots' : Slotted) (before after : Base) (looked : Listed) → s.aloft ≡ slots.aloft → s.mails ≡ before.mails
+pub view_committed : (s : State) (set again : Places) (slots slots' : Slotted) (before after : Base) (looked : Listed)
+    → s.aloft ≡ slots.aloft → s.mails ≡ before.mails
     → s.fallbacks ≡ stand_ins_for s.description before.erred
-    → HasCommitted s set again slots'.loaded after.robot.hardware looked → slots' ≡ record slots { loaded = slots'.loaded } → IsSameBase before after
-    → with_hardware (record s { loaded = slots'.loaded; aloft = slots'.aloft; mails = after.mails; fallbacks = stand_ins_for s.description after.erred }) after.robot.hardware
+    → HasCommitted s set again slots'.loaded after.robot.hardware looked
+    → slots' ≡ record slots { loaded = slots'.loaded } → IsSameBase before after
+    → with_hardware
+    (record s {
+      loaded = slots'.loaded;
+      aloft = slots'.aloft;
+      mails = after.mails;
+      fallbacks =
+          stand_ins_for s.description after.erred;
+    }) after.robot.hardware
     ≡ commit s set again
 unfolding commit
 view_committed s set again slots slots' before after looked aloft mails fallbacks made stays same =
     let fell = stand_ins_for s.description after.erred in
-    ap (λ (b : Bool). with_hardware (record s { loaded = slots'.loaded; aloft = b; mails = after.mails; fallbacks = fell }) after.robot.hardware) (ap (λ (x : Slotted). x.aloft) stays ∙ sym aloft)
-    ∙ ap (λ (ms : List MailAloft). with_hardware (record s { loaded = slots'.loaded; mails = ms; fallbacks = fell }) after.robot.hardware) (same.mails ∙ sym mails)
-    ∙ ap (λ (names : List (List ℕ)). with_hardware (record s { loaded = slots'.loaded; fallbacks = names }) after.robot.hardware)
+    ap (λ (b : Bool). with_hardware
+    (record s { loaded = slots'.loaded; aloft = b; mails = after.mails; fallbacks = fell }) after.robot.hardware)
+    (ap (λ (x : Slotted). x.aloft) stays ∙ sym aloft)
+    ∙ ap (λ (ms : List MailAloft). with_hardware (record s { loaded = slots'.loaded; mails = ms; fallbacks = fell })
+    after.robot.hardware) (same.mails ∙ sym mails)
+    ∙ ap (λ (names : List (List ℕ)). with_hardware (record s { loaded = slots'.loaded; fallbacks = names })
+    after.robot.hardware)
     (ap (stand_ins_for s.description) same.erred ∙ sym fallbacks)
-    ∙ ap (λ (ls : List Loaded). with_hardware (record s { loaded = ls }) after.robot.hardware) made.loaded ∙ sym (state_is (commit s set again) after.robot.hardware made.hardware)
+    ∙ ap (λ (ls : List Loaded). with_hardware (record s { loaded = ls }) after.robot.hardware) made.loaded
+    ∙ sym (state_is (commit s set again) after.robot.hardware made.hardware)
 
-pub kept_committed : (s : State) (set again : Places) (slots : List Loaded) (names : List (List ℕ)) (before after : Base) (was looked : Listed)
-    → IsKept s names before was → s.aloft ≡ false → HasCommitted s set again slots after.robot.hardware looked → looked.order ≡ was.order → IsSameBase before after
+pub kept_committed : (s : State) (set again : Places) (slots : List Loaded) (names : List (List ℕ))
+    (before after : Base) (was looked : Listed)
+    → IsKept s names before was → s.aloft ≡ false → HasCommitted s set again slots after.robot.hardware looked
+    → looked.order ≡ was.order → IsSameBase before after
     → IsKept (commit s set again) names after looked
 unfolding commit
 kept_committed s set again slots names before after was looked kept down made order same =
     let stays = commit_stays s set again in
-    let based : IsBased s.description false was.order before = subst (λ (b : Bool). IsBased s.description b was.order before) down kept.based in
+    let based : IsBased s.description false was.order before =
+    subst (λ (b : Bool). IsBased s.description b was.order before) down kept.based in
     record {
       worked_out = worked_with s.description names before.robot after.robot kept.worked_out same.robot;
       described = described_stay s.description s.loaded (commit s set again).loaded stays kept.described;
@@ -187,33 +236,48 @@ kept_committed s set again slots names before after was looked kept down made or
       unclosed = kept.unclosed;
       no_mail = kept.no_mail;
       listed = record {
-        active = record { counted = made.active.counted; told = λ p below. made.active.told p below ∙ ap (λ ls. serial_in ls p) made.loaded };
+        active = record {
+          counted = made.active.counted;
+          told =
+              λ p below. made.active.told p below ∙ ap (λ ls. serial_in ls p) made.loaded;
+        };
         order = λ now. (let no : false ≡ true = sym made.stale ∙ now in cc);
         run = λ now. (let no : false ≡ true = sym made.stale ∙ now in cc);
       };
       fit = fit_committed s set again (kept.no_mail down) kept.fit;
-      based = subst (λ (b : Bool). IsBased s.description b looked.order after) (sym down) (based_with s.description was.order looked.order before after based same);
+      based = subst (λ (b : Bool). IsBased s.description b looked.order after) (sym down)
+          (based_with s.description was.order looked.order before after based same);
     }
 
 -- ---- A move
 
 -- the hardware is that of the state when the component moved, where that is steady
-pub held_when_steady : (s : State) (lives : List Life) (w : Wired) → IsValid s.description → IsSteady (moved s lives) → IsMoved (moved s lives) w → IsHardwareOf (moved s lives) w
+pub held_when_steady : (s : State) (lives : List Life) (w : Wired) → IsValid s.description → IsSteady (moved s lives)
+    → IsMoved (moved s lives) w → IsHardwareOf (moved s lives) w
 held_when_steady s lives w valid steady is =
-    moved_is_held (moved s lives) w (owned_is_available (moved s lives) valid steady.together steady.in_order.described) is
+    moved_is_held (moved s lives) w (owned_is_available (moved s lives) valid steady.together steady.in_order.described)
+    is
 
-pub view_moved : (s : State) (lives : List Life) (before after : Base) → s.mails ≡ before.mails → s.fallbacks ≡ stand_ins_for s.description before.erred → IsSameBase before after → IsHardwareOf (moved s lives) after.robot.hardware
-    → with_hardware (record s { mails = after.mails; fallbacks = stand_ins_for s.description after.erred }) after.robot.hardware ≡ moved s lives
+pub view_moved : (s : State) (lives : List Life) (before after : Base) → s.mails ≡ before.mails
+    → s.fallbacks ≡ stand_ins_for s.description before.erred → IsSameBase before after
+    → IsHardwareOf (moved s lives) after.robot.hardware
+    → with_hardware (record s { mails = after.mails; fallbacks = stand_ins_for s.description after.erred })
+    after.robot.hardware ≡ moved s lives
 view_moved s lives before after mails fallbacks same is =
-    ap (λ (ms : List MailAloft). with_hardware (record s { mails = ms; fallbacks = stand_ins_for s.description after.erred }) after.robot.hardware) (same.mails ∙ sym mails)
-    ∙ ap (λ (names : List (List ℕ)). with_hardware (record s { fallbacks = names }) after.robot.hardware) (ap (stand_ins_for s.description) same.erred ∙ sym fallbacks)
+    ap (λ (ms : List MailAloft). with_hardware
+    (record s { mails = ms; fallbacks = stand_ins_for s.description after.erred }) after.robot.hardware)
+    (same.mails ∙ sym mails)
+    ∙ ap (λ (names : List (List ℕ)). with_hardware (record s { fallbacks = names }) after.robot.hardware)
+    (ap (stand_ins_for s.description) same.erred ∙ sym fallbacks)
     ∙ sym (state_is (moved s lives) after.robot.hardware is)
 
 pub kept_moved : (s : State) (lives : List Life) (names : List (List ℕ)) (before after : Base) (listed : Listed)
-    → IsKept s names before listed → s.aloft ≡ false → IsHardwareOf (moved s lives) after.robot.hardware → IsSameBase before after
+    → IsKept s names before listed → s.aloft ≡ false → IsHardwareOf (moved s lives) after.robot.hardware
+    → IsSameBase before after
     → IsKept (moved s lives) names after listed
 kept_moved s lives names before after listed kept down is same =
-    let based : IsBased s.description false listed.order before = subst (λ (b : Bool). IsBased s.description b listed.order before) down kept.based in
+    let based : IsBased s.description false listed.order before =
+    subst (λ (b : Bool). IsBased s.description b listed.order before) down kept.based in
     record {
       worked_out = worked_with s.description names before.robot after.robot kept.worked_out same.robot;
       described = kept.described;
@@ -227,17 +291,34 @@ kept_moved s lives names before after listed kept down is same =
       no_mail = kept.no_mail;
       listed = record { active = kept.listed.active; order = kept.listed.order; run = kept.listed.run };
       fit = record { timed = kept.fit.timed; waiting = kept.fit.waiting; aloft = kept.fit.aloft };
-      based = subst (λ (b : Bool). IsBased s.description b listed.order after) (sym down) (based_with s.description listed.order listed.order before after based same);
+      based = subst (λ (b : Bool). IsBased s.description b listed.order after) (sym down)
+          (based_with s.description listed.order listed.order before after based same);
     }
 
 -- ---- A cycle
 
 -- with these controllers and this hardware, and nothing aloft, the state is the one after the cycle
 view_ended : (s : State) (slots : List Loaded) (w : Wired) (looked : Listed) → HasSettled s slots w looked
-    → with_hardware (record s { loaded = slots; ended = s.ended + 1; aloft = false; mails = []; fallbacks = fallbacks_after s (told_in s) }) w ≡ after_cycle s (cycle s)
+    → with_hardware
+    (record s {
+      loaded = slots;
+      ended = s.ended + 1;
+      aloft = false;
+      mails = [];
+      fallbacks =
+          fallbacks_after s (told_in s);
+    }) w ≡ after_cycle s (cycle s)
 unfolding after_cycle commit
 view_ended s slots w looked made =
-    ap (λ (ls : List Loaded). with_hardware (record s { loaded = ls; ended = s.ended + 1; aloft = false; mails = []; fallbacks = fallbacks_after s (told_in s) }) w) made.loaded
+    ap (λ (ls : List Loaded). with_hardware
+    (record s {
+      loaded = ls;
+      ended = s.ended + 1;
+      aloft = false;
+      mails = [];
+      fallbacks =
+          fallbacks_after s (told_in s);
+    }) w) made.loaded
     ∙ sym (state_is (after_cycle s (cycle s)) w made.hardware)
 
 ended_stays : (s : State) → all_staying (after_cycle s (cycle s)).loaded ≡ all_staying s.loaded
@@ -260,9 +341,11 @@ pub record IsHomeBase (d : Description) (before after : Base) : Type 0 where
   pub size : after.size ≡ before.size
   pub room : after.room ≡ before.room
 
-based_at_home : (d : Description) (aloft : Bool) (was order : List Member) (before after : Base) → IsBased d aloft was before → IsHomeBase d before after → IsBased d false order after
+based_at_home : (d : Description) (aloft : Bool) (was order : List Member) (before after : Base)
+    → IsBased d aloft was before → IsHomeBase d before after → IsBased d false order after
 based_at_home d aloft was order before after based is =
-    let home = some_home (IsHome after.robot after.ending after.members after.erred after.next_lists) after.idle_context is.home in
+    let home = some_home (IsHome after.robot after.ending after.members after.erred after.next_lists) after.idle_context
+    is.home in
     record {
       wide = is.room ∙ based.wide;
       flags = is.flags;
@@ -280,7 +363,8 @@ based_at_home d aloft was order before after based is =
     }
 
 pub kept_ended : (s : State) (slots : List Loaded) (names : List (List ℕ)) (before after : Base) (was looked : Listed)
-    → IsKept s names before was → HasSettled s slots after.robot.hardware looked → IsWorkedOut s.description names after.robot → IsHomeBase s.description before after
+    → IsKept s names before was → HasSettled s slots after.robot.hardware looked
+    → IsWorkedOut s.description names after.robot → IsHomeBase s.description before after
     → IsKept (after_cycle s (cycle s)) names after looked
 unfolding after_cycle commit
 kept_ended s slots names before after was looked kept made worked is =
@@ -302,71 +386,103 @@ kept_ended s slots names before after was looked kept made worked is =
     }
 
 -- the same, of what the desk is seen as
-pub ended_view : (d : Description) (blanks : Blanks) (sessions loads : ℕ) (slots slots' : Slotted) (asked : Asked) (before after : Base) (ended count : ℕ) (closed : Bool) (looked : Listed)
-    → HasSettled (state_with d blanks sessions loads slots asked before ended closed) slots'.loaded after.robot.hardware looked
+pub ended_view : (d : Description) (blanks : Blanks) (sessions loads : ℕ) (slots slots' : Slotted) (asked : Asked)
+    (before after : Base) (ended count : ℕ) (closed : Bool) (looked : Listed)
+    → HasSettled (state_with d blanks sessions loads slots asked before ended closed) slots'.loaded after.robot.hardware
+    looked
     → slots'.aloft ≡ false → after.mails ≡ [] → count ≡ ended + 1
-    → stand_ins_for d after.erred ≡ fallbacks_after (state_with d blanks sessions loads slots asked before ended closed) (told_in (state_with d blanks sessions loads slots asked before ended closed))
+    → stand_ins_for d after.erred
+    ≡ fallbacks_after (state_with d blanks sessions loads slots asked before ended closed)
+    (told_in (state_with d blanks sessions loads slots asked before ended closed))
     → state_with d blanks sessions loads slots' asked after count closed
-    ≡ after_cycle (state_with d blanks sessions loads slots asked before ended closed) (cycle (state_with d blanks sessions loads slots asked before ended closed))
-ended_view d blanks sessions loads slots slots' asked before after ended count closed looked made down none_aloft more fell =
-    rw (down, none_aloft, more, fell) (view_ended (state_with d blanks sessions loads slots asked before ended closed) slots'.loaded after.robot.hardware looked made)
+    ≡ after_cycle (state_with d blanks sessions loads slots asked before ended closed)
+    (cycle (state_with d blanks sessions loads slots asked before ended closed))
+ended_view d blanks sessions loads slots slots' asked before after ended count closed looked made down none_aloft more
+    fell =
+    rw (down, none_aloft, more, fell)
+    (view_ended (state_with d blanks sessions loads slots asked before ended closed) slots'.loaded after.robot.hardware
+    looked made)
 
 -- ---- Between two cycles
 
 -- what is kept goes by these parts of a base, where no cycle is aloft
-pub kept_idle : (s : State) (names : List (List ℕ)) (before after : Base) (looked : Listed) → IsKept s names before looked → s.aloft ≡ false
-    → after.robot ≡ before.robot → after.ending ≡ before.ending → IsSomeAnd after.idle_context (IsHome after.robot after.ending after.members after.erred after.next_lists) → after.lists ≡ before.lists → after.told ≡ before.told → after.next_lists ≡ before.next_lists
+pub kept_idle : (s : State) (names : List (List ℕ)) (before after : Base) (looked : Listed)
+    → IsKept s names before looked → s.aloft ≡ false
+    → after.robot ≡ before.robot → after.ending ≡ before.ending
+    → IsSomeAnd after.idle_context (IsHome after.robot after.ending after.members after.erred after.next_lists)
+    → after.lists ≡ before.lists → after.told ≡ before.told → after.next_lists ≡ before.next_lists
     → after.size ≡ before.size → after.room ≡ before.room
-    → AllByRecursion (IsFitted after.robot.places) after.workspaces → after.members ≡ map stands_for after.workspaces → IsKept s names after looked
-kept_idle s names before after looked kept down robot ending at lists told next_lists size room fitted ordered = record {
-  worked_out = rw robot kept.worked_out;
-  described = kept.described;
-  divided = kept.divided;
-  counted = kept.counted;
-  few = kept.few;
-  hardware = rw robot kept.hardware;
-  within = kept.within;
-  ordered = kept.ordered;
-  unclosed = kept.unclosed;
-  no_mail = kept.no_mail;
-  listed = kept.listed;
-  fit = kept.fit;
-  based = record {
-    wide = room ∙ kept.based.wide;
-    flags = rw ending kept.based.flags;
-    home = (some_home (IsHome after.robot after.ending after.members after.erred after.next_lists) after.idle_context at).1;
-    home_is = (some_home (IsHome after.robot after.ending after.members after.erred after.next_lists) after.idle_context at).0 ∙ sym (ap not down);
-    fitted = fitted;
-    ordered = λ yet. ordered;
-    size = rw size kept.based.size;
-    lines = rw lists kept.based.lines;
-    shown = λ away. (let no : false ≡ true = sym away ∙ (some_home (IsHome after.robot after.ending after.members after.erred after.next_lists) after.idle_context at).0 in cc);
-    told = λ yes. rw (robot, lists) (kept.based.told (sym told ∙ yes));
-    next_lines = λ yet. rw next_lists (kept.based.next_lines yet);
-    stands = λ aloft. (let no : false ≡ true = sym down ∙ aloft in cc);
-    box_places = λ aloft. (let no : false ≡ true = sym down ∙ aloft in cc);
-  };
-}
+    → AllByRecursion (IsFitted after.robot.places) after.workspaces → after.members ≡ map stands_for after.workspaces
+    → IsKept s names after looked
+kept_idle s names before after looked kept down robot ending at lists told next_lists size room fitted ordered =
+    record {
+      worked_out = rw robot kept.worked_out;
+      described = kept.described;
+      divided = kept.divided;
+      counted = kept.counted;
+      few = kept.few;
+      hardware = rw robot kept.hardware;
+      within = kept.within;
+      ordered = kept.ordered;
+      unclosed = kept.unclosed;
+      no_mail = kept.no_mail;
+      listed = kept.listed;
+      fit = kept.fit;
+      based = record {
+        wide = room ∙ kept.based.wide;
+        flags = rw ending kept.based.flags;
+        home = (some_home (IsHome after.robot after.ending after.members after.erred after.next_lists)
+            after.idle_context
+            at).1;
+        home_is = (some_home (IsHome after.robot after.ending after.members after.erred after.next_lists)
+            after.idle_context
+            at).0 ∙ sym (ap not down);
+        fitted = fitted;
+        ordered = λ yet. ordered;
+        size = rw size kept.based.size;
+        lines = rw lists kept.based.lines;
+        shown = λ away.
+            (let no : false ≡ true =
+            sym away ∙ (some_home (IsHome after.robot after.ending after.members after.erred after.next_lists)
+            after.idle_context at).0 in cc);
+        told = λ yes. rw (robot, lists) (kept.based.told (sym told ∙ yes));
+        next_lines = λ yet. rw next_lists (kept.based.next_lines yet);
+        stands = λ aloft. (let no : false ≡ true = sym down ∙ aloft in cc);
+        box_places = λ aloft. (let no : false ≡ true = sym down ∙ aloft in cc);
+      };
+    }
 
 -- where it only is made ready for a cycle, the state is as before
 pub used_view : {C : Type 0} (a : Inside C) (next : CycleResources) (box_places : ℕ) → IsMadeReady a.resources next
-    → state_with a.checked a.blanks a.sessions a.loads a.slots a.requests (base_of next box_places) a.ended a.closed ≡ state_of a
+    → state_with a.checked a.blanks a.sessions a.loads a.slots a.requests (base_of next box_places) a.ended a.closed
+    ≡ state_of a
 used_view a next box_places made =
-    subst (λ (x : CycleResources). state_with a.checked a.blanks a.sessions a.loads a.slots a.requests (base_of x box_places) a.ended a.closed ≡ state_of a) (sym made.resources) refl
+    subst (λ (x : CycleResources). state_with a.checked a.blanks a.sessions a.loads a.slots a.requests
+    (base_of x box_places) a.ended a.closed ≡ state_of a) (sym made.resources) refl
 
-pub used_idle : (s : State) (names : List (List ℕ)) (before b : CycleResources) (m n : ℕ) (looked : Listed) → IsKept s names (base_of before m) looked → s.aloft ≡ false → IsMadeReady before b
+pub used_idle : (s : State) (names : List (List ℕ)) (before b : CycleResources) (m n : ℕ) (looked : Listed)
+    → IsKept s names (base_of before m) looked → s.aloft ≡ false → IsMadeReady before b
     → IsKept s names (base_of b n) looked
 used_idle s names before b m n looked kept down used =
-    kept_idle s names (base_of before m) (base_of b n) looked kept down (ap (λ (x : CycleResources). x.robot.value) used.resources) (ap (λ (x : CycleResources). x.ending.value) used.resources) used.home
-    (ap (λ (x : CycleResources). x.lists) used.resources) (ap (λ (x : CycleResources). x.told) used.resources) (ap (λ (x : CycleResources). x.next_lists.value) used.resources) (ap (λ (x : CycleResources). x.size) used.resources) (ap (λ (x : CycleResources). x.room) used.resources)
-    (subst (λ (g : Robot). AllByRecursion (IsFitted g.places) b.buffers.workspaces.items) (sym (ap (λ (x : CycleResources). x.robot.value) used.resources)) used.kept.fitted) used.kept.ordered
+    kept_idle s names (base_of before m) (base_of b n) looked kept down
+    (ap (λ (x : CycleResources). x.robot.value) used.resources)
+    (ap (λ (x : CycleResources). x.ending.value) used.resources) used.home
+    (ap (λ (x : CycleResources). x.lists) used.resources) (ap (λ (x : CycleResources). x.told) used.resources)
+    (ap (λ (x : CycleResources). x.next_lists.value) used.resources)
+    (ap (λ (x : CycleResources). x.size) used.resources) (ap (λ (x : CycleResources). x.room) used.resources)
+    (subst (λ (g : Robot). AllByRecursion (IsFitted g.places) b.buffers.workspaces.items)
+    (sym (ap (λ (x : CycleResources). x.robot.value) used.resources)) used.kept.fitted) used.kept.ordered
 
 -- and is kept,
-pub kept_ready : {C : Type 0} (a : Inside C) (next : CycleResources) (box_places : ℕ) → IsKept (state_of a) a.names.items (base_in a) a.active_set → a.slots.aloft ≡ false → IsMadeReady a.resources next
-    → IsKept (state_with a.checked a.blanks a.sessions a.loads a.slots a.requests (base_of next box_places) a.ended a.closed) a.names.items (base_of next box_places) a.active_set
+pub kept_ready : {C : Type 0} (a : Inside C) (next : CycleResources) (box_places : ℕ)
+    → IsKept (state_of a) a.names.items (base_in a) a.active_set → a.slots.aloft ≡ false → IsMadeReady a.resources next
+    → IsKept (state_with a.checked a.blanks a.sessions a.loads a.slots a.requests (base_of next box_places) a.ended
+    a.closed) a.names.items (base_of next box_places) a.active_set
 kept_ready a next box_places kept down made =
-    subst (λ (t : State). IsKept t a.names.items (base_of next box_places) a.active_set) (sym (used_view a next box_places made))
-    (used_idle (state_of a) a.names.items a.resources next (vec_capacity a.boxes) box_places a.active_set kept down made)
+    subst (λ (t : State). IsKept t a.names.items (base_of next box_places) a.active_set)
+    (sym (used_view a next box_places made))
+    (used_idle (state_of a) a.names.items a.resources next (vec_capacity a.boxes) box_places a.active_set kept down
+    made)
 
 -- what holds in any case holds after an error
 pub err_holds : {A E P : Type 0} (result : Result A E) → P → OnErr result P
@@ -374,8 +490,10 @@ err_holds (Ok x) holds = tt
 err_holds (Err e) holds = holds
 
 -- also where there is other room for boxes alone
-pub kept_with_room : {C : Type 0} (a : Inside C) (box_places : ℕ) → IsKept (state_of a) a.names.items (base_in a) a.active_set → a.slots.aloft ≡ false
+pub kept_with_room : {C : Type 0} (a : Inside C) (box_places : ℕ)
+    → IsKept (state_of a) a.names.items (base_in a) a.active_set → a.slots.aloft ≡ false
     → IsKept (state_of a) a.names.items (base_of a.resources box_places) a.active_set
 kept_with_room a box_places kept down =
     kept_idle (state_of a) a.names.items (base_in a) (base_of a.resources box_places) a.active_set kept down refl refl
-    (at_home a.checked a.active_set.order a.resources (vec_capacity a.boxes) a.slots.aloft kept.based down) refl refl refl refl refl kept.based.fitted (kept.based.ordered down)
+    (at_home a.checked a.active_set.order a.resources (vec_capacity a.boxes) a.slots.aloft kept.based down) refl refl
+    refl refl refl kept.based.fitted (kept.based.ordered down)

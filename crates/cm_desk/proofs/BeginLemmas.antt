@@ -1,5 +1,7 @@
--- The begin of a cycle: each request that waits in the state that the one before it left, and then the cycle goes aloft.
-use Rattle.std.proofs.Common.{◌≡◌, ℕ, zero, suc, ◌+◌, ◌<◌, ◌≤◌, Bool, true, false, List, [], ◌∷◌, ◌++◌, length, drop, Option, Some, None, refl, sym, ap, ap₂, subst, ◌∙◌, arith}
+-- The begin of a cycle: each request that waits in the state that the one before it left, and then the cycle goes
+-- aloft.
+use Rattle.std.proofs.Common.{◌≡◌, ℕ, zero, suc, ◌+◌, ◌<◌, ◌≤◌, Bool, true, false, List, [], ◌∷◌, ◌++◌}
+use Rattle.std.proofs.Common.{length, drop, Option, Some, None, refl, sym, ap, ap₂, subst, ◌∙◌, arith}
 use Rattle.std.specs.Prelude.{◌==◌, ◌&&◌, if◌then◌else◌, not, nat_lt}
 use Rattle.std.specs.List.{All, AllByRecursion}
 use Rattle.std.proofs.lemmas.Bool.{and_parts, eqb-true, ltb-true}
@@ -10,7 +12,10 @@ use Rattle.cm_document.specs.declared.call.Call.TheVariants.{Begin}
 use Rattle.cm_document.specs.declared.description.Description.{Description}
 use Rattle.cm_document.specs.declared.life.Life.{Life}
 use Rattle.cm_model.specs.BestEffort.{decided}
-use Rattle.cm_model.specs.Boundary.{waiting, with_switch, with_move_unless, with_move, component_place, move_fault, concluded, with_outcome, all_concluded, standing_in, after_standing_in, after_fallbacks, told_of_fallbacks, boundary, decisions_from, decisions_between, begin_effect, begin_reply}
+use Rattle.cm_model.specs.Boundary.{waiting, with_switch, with_move_unless, with_move, component_place}
+use Rattle.cm_model.specs.Boundary.{move_fault, concluded, with_outcome, all_concluded, standing_in}
+use Rattle.cm_model.specs.Boundary.{after_standing_in, after_fallbacks, told_of_fallbacks, boundary}
+use Rattle.cm_model.specs.Boundary.{decisions_from, decisions_between, begin_effect, begin_reply}
 use Rattle.cm_model.specs.Commit.{scene_of, commit}
 use Rattle.cm_model.specs.Cycle.{begun, without_mail_off, is_due_now}
 use Rattle.cm_document.specs.Valid.{IsValid}
@@ -47,7 +52,8 @@ use Rattle.cm_desk.specs.Works.{IsAsDescribed, IsKept, state_with}
 use Rattle.cm_desk.proofs.ActiveLemmas.{IsSameOne, actives_map, same_serial, same_order, hardware_stays}
 use Rattle.cm_slots.proofs.FitLemmas.{fit_begun}
 use Rattle.cm_desk.proofs.OrderLemmas.{order_within}
-use Rattle.cm_desk.proofs.StayLemmas.{all_staying, begun_stays, serials_stay, count_stays, described_stay, divided_stay, concluded_stays}
+use Rattle.cm_desk.proofs.StayLemmas.{all_staying, begun_stays, serials_stay, count_stays}
+use Rattle.cm_desk.proofs.StayLemmas.{described_stay, divided_stay, concluded_stays}
 
 -- ---- When a cycle can begin
 
@@ -70,7 +76,9 @@ begins_open s can = second s.aloft s.closed (s.ended == s.ended) (nat_lt s.ended
 
 -- and the next one is described
 pub begins_within : (s : State) → can_begin s s.ended ≡ true → s.ended < s.description.cycles
-begins_within s can = ltb-true s.ended s.description.cycles (and_parts ((not s.aloft && not s.closed) && s.ended == s.ended) (nat_lt s.ended s.description.cycles) can).1
+begins_within s can =
+    ltb-true s.ended s.description.cycles
+    (and_parts ((not s.aloft && not s.closed) && s.ended == s.ended) (nat_lt s.ended s.description.cycles) can).1
 
 -- it closes where none is aloft
 pub closes_down : (s : State) → can_close s ≡ true → s.aloft ≡ false
@@ -89,7 +97,8 @@ down_where_closed true closed unclosed shut = let no : true ≡ false = sym shut
 
 pub nil_where : {A : Type 0} (xs : List A) → (length xs == 0) ≡ true → xs ≡ []
 nil_where [] none = refl
-nil_where (x ∷ xs) none = let none_there : length (x ∷ xs) ≡ 0 = eqb-true (length (x ∷ xs)) 0 none in absurd (omega (arith, none_there))
+nil_where (x ∷ xs) none =
+    let none_there : length (x ∷ xs) ≡ 0 = eqb-true (length (x ∷ xs)) 0 none in absurd (omega (arith, none_there))
 
 pub nothing_waits : (s : State) → none_waits s.requests s.outcomes ≡ true → waiting s ≡ []
 nothing_waits s none = nil_where (waiting s) none
@@ -115,10 +124,12 @@ pub quiet_boundary : (s : State) → s.fallbacks ≡ [] → waiting s ≡ [] →
 quiet_boundary s nobody none =
     ap (λ (t : State). all_concluded t (waiting t)) (stood_nobody s s.fallbacks nobody) ∙ none_concluded s none
 
-pub quiet_decisions : (s : State) → s.fallbacks ≡ [] → waiting s ≡ [] → told_of_fallbacks s s.fallbacks ++ decisions_between s (boundary s) ≡ []
+pub quiet_decisions : (s : State) → s.fallbacks ≡ [] → waiting s ≡ []
+    → told_of_fallbacks s s.fallbacks ++ decisions_between s (boundary s) ≡ []
 quiet_decisions s nobody none =
     ap₂ (λ (first later : List Decision). first ++ later) (told_nobody s s.fallbacks nobody)
-    (ap (decisions_between s) (quiet_boundary s nobody none) ∙ ap (decisions_from (length s.outcomes)) (drop-length s.outcomes))
+    (ap (decisions_between s) (quiet_boundary s nobody none)
+    ∙ ap (decisions_from (length s.outcomes)) (drop-length s.outcomes))
 
 -- ---- The first that waits
 
@@ -135,7 +146,8 @@ switch_keeps : (s : State) (d : Decided) → KeepsAsked s (with_switch s d).stat
 switch_keeps s (refused because) = record { requests = refl; outcomes = refl; aloft = refl }
 switch_keeps s (done dropped set again) = commit_keeps s set again
 
-move_unless_keeps : (s : State) (name : List ℕ) (component : ℕ) (target : Life) (o : Option Cause) → KeepsAsked s (with_move_unless s name component target o).state
+move_unless_keeps : (s : State) (name : List ℕ) (component : ℕ) (target : Life) (o : Option Cause)
+    → KeepsAsked s (with_move_unless s name component target o).state
 move_unless_keeps s name component target None = record { requests = refl; outcomes = refl; aloft = refl }
 move_unless_keeps s name component target (Some reason) = record { requests = refl; outcomes = refl; aloft = refl }
 
@@ -145,13 +157,15 @@ move_keeps s name target (Some component) = move_unless_keeps s name component t
 
 concluded_keeps : (s : State) (asked : Request) → KeepsAsked s (concluded s asked).state
 concluded_keeps s (request.Switch asked) = switch_keeps s (decided (scene_of s) asked)
-concluded_keeps s (request.Hardware component target) = move_keeps s component target (component_place s.description component)
+concluded_keeps s (request.Hardware component target) =
+    move_keeps s component target (component_place s.description component)
 
 -- a conclusion leaves the cycle down
 pub concluded_down : (s : State) (asked : Request) → s.aloft ≡ false → (with_outcome (concluded s asked)).aloft ≡ false
 concluded_down s asked down = (concluded_keeps s asked).aloft ∙ down
 
-dropped_first : {A : Type 0} (n : ℕ) (xs : List A) (x : A) (later : List A) → drop n xs ≡ x ∷ later → (n < length xs) × (drop (n + 1) xs ≡ later)
+dropped_first : {A : Type 0} (n : ℕ) (xs : List A) (x : A) (later : List A) → drop n xs ≡ x ∷ later
+    → (n < length xs) × (drop (n + 1) xs ≡ later)
 dropped_first zero [] x later is = cc
 dropped_first zero (y ∷ ys) x later is = (omega arith, ap tail is)
   where
@@ -165,17 +179,20 @@ dropped_first (suc n) (y ∷ ys) x later is =
     (omega (arith, rest.0), ap (λ (k : ℕ). drop k (y ∷ ys)) one_more ∙ rest.1)
 
 -- it has no outcome yet
-pub first_undecided : (s : State) (asked : Request) (later : List Request) → waiting s ≡ asked ∷ later → length s.outcomes < length s.requests
+pub first_undecided : (s : State) (asked : Request) (later : List Request) → waiting s ≡ asked ∷ later
+    → length s.outcomes < length s.requests
 first_undecided s asked later is = (dropped_first (length s.outcomes) s.requests asked later is).0
 
 -- nor has it in the state that its conclusion leaves
-pub still_undecided : (s t : State) (asked : Request) (later : List Request) → waiting s ≡ asked ∷ later → t ≡ (concluded s asked).state → length t.outcomes < length t.requests
+pub still_undecided : (s t : State) (asked : Request) (later : List Request) → waiting s ≡ asked ∷ later
+    → t ≡ (concluded s asked).state → length t.outcomes < length t.requests
 still_undecided s t asked later is same =
     let kept = concluded_keeps s asked in
     rw (same, kept.outcomes, kept.requests) (first_undecided s asked later is)
 
 -- then the others wait
-pub next_waiting : (s : State) (asked : Request) (later : List Request) → waiting s ≡ asked ∷ later → waiting (with_outcome (concluded s asked)) ≡ later
+pub next_waiting : (s : State) (asked : Request) (later : List Request) → waiting s ≡ asked ∷ later
+    → waiting (with_outcome (concluded s asked)) ≡ later
 next_waiting s asked later is =
     let kept = concluded_keeps s asked in
     let o = (concluded s asked).outcome in
@@ -185,10 +202,12 @@ next_waiting s asked later is =
 
 -- all that wait are concluded, or the first of them and then the others
 concluded_next : (s : State) (asked : Request) (later : List Request) → waiting s ≡ asked ∷ later
-    → all_concluded s (waiting s) ≡ all_concluded (with_outcome (concluded s asked)) (waiting (with_outcome (concluded s asked)))
+    → all_concluded s (waiting s)
+    ≡ all_concluded (with_outcome (concluded s asked)) (waiting (with_outcome (concluded s asked)))
 unfolding all_concluded
 concluded_next s asked later is =
-    ap (all_concluded s) is ∙ ap (all_concluded (with_outcome (concluded s asked))) (sym (next_waiting s asked later is))
+    ap (all_concluded s) is
+    ∙ ap (all_concluded (with_outcome (concluded s asked))) (sym (next_waiting s asked later is))
 
 -- ---- One conclusion after the other
 
@@ -206,7 +225,8 @@ pub record HasNext (s : State) (c : Conclusion) (cs : List Conclusion) : Type 0 
   pub next : IsNext s asked others c
   pub later : AreConclusionsOf (with_outcome (concluded s asked)) others cs
 
-next_from : (s : State) (rs : List Request) (c : Conclusion) (cs : List Conclusion) → waiting s ≡ rs → AreConclusionsOf s rs (c ∷ cs) → HasNext s c cs
+next_from : (s : State) (rs : List Request) (c : Conclusion) (cs : List Conclusion) → waiting s ≡ rs
+    → AreConclusionsOf s rs (c ∷ cs) → HasNext s c cs
 next_from s [] c cs is concluded = absurd concluded
 next_from s (asked ∷ others) c cs is concluded = record {
   asked = asked;
@@ -219,14 +239,16 @@ pub next_of : (opening s : State) (c : Conclusion) (cs : List Conclusion) → Is
 next_of opening s c cs left = next_from s (waiting s) c cs refl left.concluded
 
 pub left_next : (opening s t : State) (c : Conclusion) (cs : List Conclusion) → IsLeft opening s (c ∷ cs)
-    → ((asked : Request) (later : List Request) → IsNext s asked later c → t ≡ with_outcome (concluded s asked)) → IsLeft opening t cs
+    → ((asked : Request) (later : List Request) → IsNext s asked later c → t ≡ with_outcome (concluded s asked))
+    → IsLeft opening t cs
 left_next opening s t c cs left made =
     let n = next_of opening s c cs left in
     let is = made n.asked n.others n.next in
     subst (λ u. IsLeft opening u cs) (sym is) (record {
       down = concluded_down s n.asked left.down;
       steady = outcome_steady (concluded s n.asked) (concluded_steady s n.asked left.steady);
-      concluded = subst (λ rs. AreConclusionsOf (with_outcome (concluded s n.asked)) rs cs) (sym (next_waiting s n.asked n.others n.next.first)) n.later;
+      concluded = subst (λ rs. AreConclusionsOf (with_outcome (concluded s n.asked)) rs cs)
+          (sym (next_waiting s n.asked n.others n.next.first)) n.later;
       same = sym (concluded_next s n.asked n.others n.next.first) ∙ left.same;
     })
 
@@ -240,13 +262,15 @@ left_none opening s left = sym (none_concluded s (none_left s (waiting s) left.c
 -- ---- Those that stand in
 
 -- where nothing was concluded of them, nobody is to stand in, and the state is as it was,
-pub stood_without : (s now : State) (names : List (List ℕ)) → now ≡ record s { fallbacks = [] } → s.fallbacks ≡ names → IsStandingIn s names None
+pub stood_without : (s now : State) (names : List (List ℕ)) → now ≡ record s { fallbacks = [] } → s.fallbacks ≡ names
+    → IsStandingIn s names None
     → now ≡ after_standing_in s names
 stood_without s now [] emptied is first = emptied ∙ ap (λ (ns : List (List ℕ)). record s { fallbacks = ns }) (sym is)
 stood_without s now (name ∷ names) emptied is first = absurd first
 
 -- else it can be done,
-pub stood_with : (s : State) (names : List (List ℕ)) (c : Conclusion) → IsSteady s → IsStandingIn s names (Some c) → CanAct (record s { fallbacks = [] }) (after_standing_in s names) c.act
+pub stood_with : (s : State) (names : List (List ℕ)) (c : Conclusion) → IsSteady s → IsStandingIn s names (Some c)
+    → CanAct (record s { fallbacks = [] }) (after_standing_in s names) c.act
 stood_with s [] c steady first = absurd first
 stood_with s (name ∷ names) c steady first =
     let t = record s { fallbacks = [] } in record {
@@ -257,10 +281,12 @@ stood_with s (name ∷ names) c steady first =
 -- and no cycle goes aloft by it
 pub stood_down : (s : State) (names : List (List ℕ)) → s.aloft ≡ false → (after_standing_in s names).aloft ≡ false
 stood_down s [] down = down
-stood_down s (name ∷ names) down = (concluded_keeps (record s { fallbacks = [] }) (standing_in (name ∷ names))).aloft ∙ down
+stood_down s (name ∷ names) down =
+    (concluded_keeps (record s { fallbacks = [] }) (standing_in (name ∷ names))).aloft ∙ down
 
 -- the state after a conclusion, with its outcome
-pub concluded_so : (s t : State) (asked : Request) (c : Conclusion) → t ≡ (concluded s asked).state → c.outcome ≡ (concluded s asked).outcome
+pub concluded_so : (s t : State) (asked : Request) (c : Conclusion) → t ≡ (concluded s asked).state
+    → c.outcome ≡ (concluded s asked).outcome
     → record t { outcomes = t.outcomes ++ c.outcome ∷ [] } ≡ with_outcome (concluded s asked)
 concluded_so s t asked c same outcome =
     ap₂ (λ (u : State) (o : Outcome). record u { outcomes = u.outcomes ++ o ∷ [] }) same outcome
@@ -272,7 +298,8 @@ unfolding all_concluded
 all_stay s [] = refl
 all_stay s (asked ∷ later) = all_stay (with_outcome (concluded s asked)) later ∙ concluded_stays s asked
 
-standing_stays : (s : State) (names : List (List ℕ)) → all_staying (after_standing_in s names).loaded ≡ all_staying s.loaded
+standing_stays : (s : State) (names : List (List ℕ))
+    → all_staying (after_standing_in s names).loaded ≡ all_staying s.loaded
 standing_stays s [] = refl
 standing_stays s (name ∷ names) = concluded_stays (record s { fallbacks = [] }) (standing_in (name ∷ names))
 
@@ -281,21 +308,26 @@ boundary_stays s = all_stay (after_fallbacks s) (waiting (after_fallbacks s)) �
 
 -- serials go on to differ
 begun_numbered : (s : State) → IsNumbered s → IsNumbered (begin_effect s)
-begun_numbered s numbered = renumbered_numbered s (effect s (Begin 0) reply.Done) (effect_renumbered s (Begin 0) reply.Done) numbered
+begun_numbered s numbered =
+    renumbered_numbered s (effect s (Begin 0) reply.Done) (effect_renumbered s (Begin 0) reply.Done) numbered
 
 boundary_numbered : (s : State) → IsNumbered s → IsNumbered (boundary s)
 boundary_numbered s numbered =
-    subst (AreNumbered (boundary s).loads) (serials_stay (boundary s).loaded (begun (boundary s)).loaded (begun_stays (boundary s))) (begun_numbered s numbered)
+    subst (AreNumbered (boundary s).loads)
+    (serials_stay (boundary s).loaded (begun (boundary s)).loaded (begun_stays (boundary s)))
+    (begun_numbered s numbered)
 
 pub loop_itself : (n : ℕ) → (n == n) ≡ true
 loop_itself n = grind (arith, nat_tests)
 
 -- the loop begins a cycle where it can
-pub begin_step : (s : State) (n : ℕ) → can_begin s n ≡ true → step s s.sessions (Begin n) ≡ Some (begin_effect s, begin_reply s)
+pub begin_step : (s : State) (n : ℕ) → can_begin s n ≡ true
+    → step s s.sessions (Begin n) ≡ Some (begin_effect s, begin_reply s)
 unfolding step
 begin_step s n can = rw (loop_itself s.sessions, can) refl
 
--- What is known of the state after all that waited is decided: a cycle can begin in it, which leaves it steady and its serials apart.
+-- What is known of the state after all that waited is decided: a cycle can begin in it, which leaves it steady and its
+-- serials apart.
 pub record HasDecided (s t : State) : Type 0 where
   pub description : t.description ≡ s.description
   pub down : t.aloft ≡ false
@@ -306,7 +338,8 @@ pub record HasDecided (s t : State) : Type 0 where
   pub steady_then : IsSteady (begun t)
   pub numbered_then : IsNumbered (begun t)
 
-pub has_decided : (s t : State) → t ≡ boundary s → IsValid s.description → can_begin s s.ended ≡ true → IsSteady s → IsNumbered s → HasDecided s t
+pub has_decided : (s t : State) → t ≡ boundary s → IsValid s.description → can_begin s s.ended ≡ true → IsSteady s
+    → IsNumbered s → HasDecided s t
 has_decided s t is valid can steady numbered =
     let loop = boundary-SameLoop s in
     let few : s.ended < s.description.cycles = begins_within s can in
@@ -317,7 +350,9 @@ has_decided s t is valid can steady numbered =
       within = rw (loop.ended, loop.description) few;
       numbered = boundary_numbered s numbered;
       counted = count_stays s.loaded (boundary s).loaded (boundary_stays s);
-      steady_then = step_steady s s.sessions (Begin s.ended) (begin_effect s, begin_reply s) valid steady (begin_step s s.ended can);
+      steady_then =
+          step_steady s s.sessions (Begin s.ended) (begin_effect s, begin_reply s) valid steady
+          (begin_step s s.ended can);
       numbered_then = begun_numbered s numbered;
     })
 
@@ -326,12 +361,14 @@ pub planned_order : (s : State) (plan : Plan) → IsPlanOf s plan → plan.order
 planned_order s plan is = is.order
 
 -- who is active in it is described
-pub order_decided : (s : State) → All (IsAsDescribed s.description) s.loaded → All (λ m. m.place < length s.description.controllers) (members_in_order (boundary s))
+pub order_decided : (s : State) → All (IsAsDescribed s.description) s.loaded
+    → All (λ m. m.place < length s.description.controllers) (members_in_order (boundary s))
 order_decided s described =
     let same = (boundary-SameLoop s).description in
     let still = described_stay s.description s.loaded (boundary s).loaded (boundary_stays s) described in
     subst (λ (d : Description). All (λ m. m.place < length d.controllers) (members_in_order (boundary s))) same
-    (order_within (boundary s) (subst (λ (d : Description). All (IsAsDescribed d) (boundary s).loaded) (sym same) still))
+    (order_within (boundary s)
+    (subst (λ (d : Description). All (IsAsDescribed d) (boundary s).loaded) (sym same) still))
 
 -- ---- The cycle goes aloft
 
@@ -353,7 +390,8 @@ begun_actives s = actives_map (without_mail_off s) (mail_leaves s) s.loaded
 -- What is kept then, when the order of updates is the one of now.
 pub kept_aloft : (s : State) (names : List (List ℕ)) (before after : Base) (was listed : Listed)
     → IsKept s names before was → IsNumbered s → s.aloft ≡ false → s.closed ≡ false → s.ended < s.description.cycles
-    → IsListedOf s listed → listed.current ≡ true → after.robot ≡ before.robot → IsBased s.description true listed.order after
+    → IsListedOf s listed → listed.current ≡ true → after.robot ≡ before.robot
+    → IsBased s.description true listed.order after
     → IsKept (begun s) names after listed
 kept_aloft s names before after was listed kept numbered down unclosed within is current same based =
     let actives = begun_actives s in
@@ -370,7 +408,11 @@ kept_aloft s names before after was listed kept numbered down unclosed within is
       unclosed = λ aloft. unclosed;
       no_mail = λ still. cc;
       listed = record {
-        active = record { counted = is.active.counted; told = λ p below. is.active.told p below ∙ sym (same_serial s (begun s) actives refl p) };
+        active = record {
+          counted = is.active.counted;
+          told =
+              λ p below. is.active.told p below ∙ sym (same_serial s (begun s) actives refl p);
+        };
         order = λ now. is.order now ∙ sym (same_order s (begun s) actives refl);
         run = λ now. rw (serials_stay s.loaded (begun s).loaded stays) (is.run now);
       };
@@ -380,7 +422,8 @@ kept_aloft s names before after was listed kept numbered down unclosed within is
 
 -- What is kept of a base that is away.
 pub based_aloft : (d : Description) (was order : List Member) (before after : Base) → IsBased d false was before
-    → after.size ≡ before.size → after.room ≡ before.room → after.ending ≡ before.ending → after.idle_context ≡ None → after.workspaces ≡ [] → HasLines d after.lists → Shows after.robot.hardware after.lists
+    → after.size ≡ before.size → after.room ≡ before.room → after.ending ≡ before.ending → after.idle_context ≡ None
+    → after.workspaces ≡ [] → HasLines d after.lists → Shows after.robot.hardware after.lists
     → length order ≤ after.stands → length order ≤ after.box_places → IsBased d true order after
 based_aloft d was order before after based size room ending away none lines shown stands box_places = record {
   wide = room ∙ based.wide;
@@ -399,9 +442,13 @@ based_aloft d was order before after based size room ending away none lines show
 }
 
 -- and the state is the one of the cycle that begins
-pub view_flown : (d : Description) (blanks : Blanks) (sessions loads : ℕ) (slots slots' : Slotted) (asked : Asked) (before after : Base) (ended : ℕ) (closed : Bool)
-    → slots' ≡ record slots { loaded = (begun (state_with d blanks sessions loads slots asked before ended closed)).loaded; aloft = true }
+pub view_flown : (d : Description) (blanks : Blanks) (sessions loads : ℕ) (slots slots' : Slotted) (asked : Asked)
+    (before after : Base) (ended : ℕ) (closed : Bool)
+    → slots' ≡ record slots
+    { loaded = (begun (state_with d blanks sessions loads slots asked before ended closed)).loaded; aloft = true }
     → after.mails ≡ (begun (state_with d blanks sessions loads slots asked before ended closed)).mails
     → after.robot ≡ before.robot → stand_ins_for d after.erred ≡ stand_ins_for d before.erred
-    → state_with d blanks sessions loads slots' asked after ended closed ≡ begun (state_with d blanks sessions loads slots asked before ended closed)
-view_flown d blanks sessions loads slots slots' asked before after ended closed left off same fell = rw (left, off, same, fell) refl
+    → state_with d blanks sessions loads slots' asked after ended closed
+    ≡ begun (state_with d blanks sessions loads slots asked before ended closed)
+view_flown d blanks sessions loads slots slots' asked before after ended closed left off same fell =
+    rw (left, off, same, fell) refl

@@ -28,17 +28,21 @@ use Rattle.cm_desk.proofs.WorksLemmas.{described_there}
 -- ---- Places
 
 -- each loaded controller has its place in the description
-pub places_within : (d : Description) (ls : List Loaded) → All (IsAsDescribed d) ls → All (λ l. l.place < length d.controllers) ls
+pub places_within : (d : Description) (ls : List Loaded) → All (IsAsDescribed d) ls
+    → All (λ l. l.place < length d.controllers) ls
 places_within d ls described = λ i l within.
     let there = described_there d (get_or ls i l) (described i l within) in
     slice_get_within d.controllers (get_or ls i l).place there.0 there.1
 
 -- on the board stands what is described
-pub fill_count : (s : State) (w : Wired) → IsInOrder s → IsMoved s w → length w.loans ≡ length (interfaces_of s.description)
+pub fill_count : (s : State) (w : Wired) → IsInOrder s → IsMoved s w
+    → length w.loans ≡ length (interfaces_of s.description)
 fill_count s w kept moved =
-    ap length moved.lent.loans ∙ length-map s.values _ ∙ sym (length-map s.values (λ (v : InterfaceValue). v.interface)) ∙ ap length kept.described
+    ap length moved.lent.loans ∙ length-map s.values _ ∙ sym (length-map s.values (λ (v : InterfaceValue). v.interface))
+    ∙ ap length kept.described
 
-cells_of : (d : Description) (ls : List Loaded) → IsValid d → AllByRecursion (λ l. l.place < length d.controllers) ls → AllByRecursion (IsOwn d.controllers) ls
+cells_of : (d : Description) (ls : List Loaded) → IsValid d → AllByRecursion (λ l. l.place < length d.controllers) ls
+    → AllByRecursion (IsOwn d.controllers) ls
     → AllByRecursion (IsConnected (placed_of d) (length (interfaces_of d))) ls
 cells_of d [] valid below own = tt
 cells_of d (l ∷ ls) valid below own = (own_connection d valid l below.0 own.0, cells_of d ls valid below.1 own.1)
@@ -48,23 +52,30 @@ pub connections : (s : State) → IsValid s.description → IsInOrder s → All 
     → AllByRecursion (IsConnected (placed_of s.description) (length (interfaces_of s.description))) s.loaded
 connections s valid kept described =
     cells_of s.description s.loaded valid
-    (recursion_from_All (λ (l : Loaded). l.place < length s.description.controllers) s.loaded (places_within s.description s.loaded described)) kept.own
+    (recursion_from_All (λ (l : Loaded). l.place < length s.description.controllers) s.loaded
+    (places_within s.description s.loaded described)) kept.own
 
-rooms_of : (d : Description) (ls : List Loaded) → IsValid d → AllByRecursion (λ l. l.place < length d.controllers) ls → AllByRecursion (HasRoom (placed_of d) widest) ls
+rooms_of : (d : Description) (ls : List Loaded) → IsValid d → AllByRecursion (λ l. l.place < length d.controllers) ls
+    → AllByRecursion (HasRoom (placed_of d) widest) ls
 rooms_of d [] valid below = tt
 rooms_of d (l ∷ ls) valid below = (own_room d valid l below.0, rooms_of d ls valid below.1)
 
-pub rooms : (s : State) → IsValid s.description → All (IsAsDescribed s.description) s.loaded → AllByRecursion (HasRoom (placed_of s.description) widest) s.loaded
+pub rooms : (s : State) → IsValid s.description → All (IsAsDescribed s.description) s.loaded
+    → AllByRecursion (HasRoom (placed_of s.description) widest) s.loaded
 rooms s valid described =
     rooms_of s.description s.loaded valid
-    (recursion_from_All (λ (l : Loaded). l.place < length s.description.controllers) s.loaded (places_within s.description s.loaded described))
+    (recursion_from_All (λ (l : Loaded). l.place < length s.description.controllers) s.loaded
+    (places_within s.description s.loaded described))
 
 -- ---- The commit
 
-module _ (s : State) (set again : Places) (placed : Placed) (room : ℕ) (loaded : List Loaded) (w : Wired) (listed : Listed) (chains stops starts : List Bool)
+module _ (s : State) (set again : Places) (placed : Placed) (room : ℕ) (loaded : List Loaded) (w : Wired)
+    (listed : Listed) (chains stops starts : List Bool)
     (can : CanCommit s set again placed room loaded w listed chains stops starts) where
   pub can_connected : AllByRecursion (IsConnected placed (length w.loans)) loaded
-  can_connected = rw (can.placed, can.loaded, fill_count s w can.in_order can.hardware) (connections s can.valid can.in_order can.described)
+  can_connected =
+      rw (can.placed, can.loaded, fill_count s w can.in_order can.hardware)
+      (connections s can.valid can.in_order can.described)
 
   pub can_hold : AllByRecursion (HasRoom placed room) loaded
   can_hold = rw (can.placed, can.wide, can.loaded) (rooms s can.valid can.described)
@@ -85,13 +96,15 @@ module _ (s : State) (set again : Places) (placed : Placed) (room : ℕ) (loaded
   can_export = omega (arith, fill_count s w can.in_order can.hardware, rows.exporters)
 
   -- the places stay
-  pub still_place : (after : List Loaded) → after ≡ (commit s set again).loaded → All (λ l. l.place < length listed.active) after
+  pub still_place : (after : List Loaded) → after ≡ (commit s set again).loaded
+      → All (λ l. l.place < length listed.active) after
   still_place after is =
       rw (is, can.listed) (places_within s.description (commit s set again).loaded
       (described_stay s.description s.loaded (commit s set again).loaded (commit_stays s set again) can.described))
 
   -- and so it is told to the hardware
-  pub told_to_hardware : (after : List Loaded) (active : List (Option ℕ)) → after ≡ (commit s set again).loaded → TellsActive (length listed.active) after active
+  pub told_to_hardware : (after : List Loaded) (active : List (Option ℕ)) → after ≡ (commit s set again).loaded
+      → TellsActive (length listed.active) after active
       → IsCommit s set again placed active stops
   told_to_hardware after active is tells = record {
     valid = can.valid;
@@ -104,7 +117,8 @@ module _ (s : State) (set again : Places) (placed : Placed) (room : ℕ) (loaded
     together = can.together;
   }
 
-  pub has_committed : (after : List Loaded) (w' : Wired) (looked : Listed) → after ≡ (commit s set again).loaded → TellsActive (length listed.active) after looked.active
+  pub has_committed : (after : List Loaded) (w' : Wired) (looked : Listed) → after ≡ (commit s set again).loaded
+      → TellsActive (length listed.active) after looked.active
       → looked.current ≡ false → Commits placed looked.active stops w w' → HasCommitted s set again after w' looked
   has_committed after w' looked is tells stale commits = record {
     loaded = is;

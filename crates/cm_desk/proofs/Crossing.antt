@@ -57,7 +57,22 @@ snapshot_send T = search (sendable, crosses) depth 40
 slot_send : (C : RattleType) (m : Ghosts C.Denot) → IsSend C → IsSend (Slot.the_row C m)
 slot_send C m s = view_send _ _ _ _ _ (declared_send (SlotInside.the_type C m) (
   search sendable,
-  (search sendable, (search sendable, (search sendable depth 30, (search (sendable, kind.the_send) depth 30, (search (sendable, life.the_send) depth 30, (search (sendable, mail.the_send) depth 30, (as_row_send (Snapshot.the_field C) (snapshot_send C), tt))))))),
+  (
+    search sendable,
+    (
+      search sendable,
+      (
+        search sendable depth 30,
+        (
+          search (sendable, kind.the_send) depth 30,
+          (
+            search (sendable, life.the_send) depth 30,
+            (search (sendable, mail.the_send) depth 30, (as_row_send (Snapshot.the_field C) (snapshot_send C), tt)),
+          ),
+        ),
+      ),
+    ),
+  ),
 ))
 
 option_send : (C : RattleType) → IsSend C → IsSend (Option.the_row C)
@@ -68,7 +83,11 @@ slots_send C m s =
     let slot = slot_send C m s in
     view_send _ _ _ _ _ (declared_send (SlotsInside.the_type C m) (
       as_row_send (Vec.the_field (Slot.the_row C m) Heap.the_row heap_ghosts) (heap.Vec-send (Slot.the_row C m) slot),
-      (as_row_send (Vec.the_field (Option.the_row C) Heap.the_row heap_ghosts) (heap.Vec-send (Option.the_row C) (option_send C s)), (search sendable, (search sendable, tt))),
+      (
+        as_row_send (Vec.the_field (Option.the_row C) Heap.the_row heap_ghosts)
+            (heap.Vec-send (Option.the_row C) (option_send C s)),
+        (search sendable, (search sendable, tt)),
+      ),
     ))
 
 vec_send : (T : RattleType) → IsSend T → IsSend (as_row (Vec.the_field T Heap.the_row heap_ghosts))
@@ -79,8 +98,27 @@ seen_send T = as_row_send (Snapshot.the_field T) (snapshot_send T)
 
 resources_send : IsSend CycleResources.the_row
 resources_send = declared_send CycleResources.the_type (
-  option.the_send (Box.the_row CycleContext.the_row Heap.the_row heap_ghosts) (heap.Box-send CycleContext.the_row context.the_send),
-  (seen_send Robot.the_row, (seen_send Ending.the_row, (seen_send (Vec.the_row MailAloft.the_row Heap.the_row heap_ghosts), (seen_send (Vec.the_row Member.the_row Heap.the_row heap_ghosts), (seen_send (Vec.the_row u32 Heap.the_row heap_ghosts), (buffers.the_send, (lists.the_send, (search sendable, (seen_send Lists.the_row, (size.the_send, (room.the_send, tt))))))))))),
+  option.the_send (Box.the_row CycleContext.the_row Heap.the_row heap_ghosts)
+      (heap.Box-send CycleContext.the_row context.the_send),
+  (
+    seen_send Robot.the_row,
+    (
+      seen_send Ending.the_row,
+      (
+        seen_send (Vec.the_row MailAloft.the_row Heap.the_row heap_ghosts),
+        (
+          seen_send (Vec.the_row Member.the_row Heap.the_row heap_ghosts),
+          (
+            seen_send (Vec.the_row u32 Heap.the_row heap_ghosts),
+            (
+              buffers.the_send,
+              (lists.the_send, (search sendable, (seen_send Lists.the_row, (size.the_send, (room.the_send, tt))))),
+            ),
+          ),
+        ),
+      ),
+    ),
+  ),
 )
 
 works_send : (C : RattleType) (m : Ghosts C.Denot) → IsSend C → IsSend (Works.the_row C m)

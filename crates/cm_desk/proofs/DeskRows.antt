@@ -42,13 +42,15 @@ unloaded = by 0 (Load (codes "mk")) (reply.Serial 0) ∷ by 0 (Unload (codes "mk
 
 abbrev loaded_again : List Entry
 loaded_again =
-    by 0 (Load (codes "mk")) (reply.Serial 0) ∷ by 0 (Unload (codes "mk")) reply.Done ∷ by 0 (Load (codes "mk")) (reply.Serial 1)
+    by 0 (Load (codes "mk")) (reply.Serial 0) ∷ by 0 (Unload (codes "mk")) reply.Done
+    ∷ by 0 (Load (codes "mk")) (reply.Serial 1)
     ∷ by 1 Close (reply.Decisions []) ∷ []
 
 -- ---- Rows
 
 -- an unload gives no blank back, and no serial is given twice
-no_blank_back : ((after unloaded).loaded ≡ []) × (blanks_of (after unloaded).blanks kind.Mock ≡ 1) × (blanks_of (after loaded_again).blanks kind.Mock ≡ 0) × ((after loaded_again).loads ≡ 2)
+no_blank_back : ((after unloaded).loaded ≡ []) × (blanks_of (after unloaded).blanks kind.Mock ≡ 1)
+    × (blanks_of (after loaded_again).blanks kind.Mock ≡ 0) × ((after loaded_again).loads ≡ 2)
 unfolding step
 no_blank_back = (refl, refl, refl, refl)
 
@@ -70,7 +72,8 @@ what_is_owed : (owed opening ≡ 1) × (owed (record opening { aloft = true }) �
 unfolding step all_concluded
 what_is_owed = (refl, refl, refl)
 
--- a session waits for a cycle that has not ended and for a request that is not decided, and goes on where it need not wait
+-- a session waits for a cycle that has not ended and for a request that is not decided, and goes on where it need not
+-- wait
 who_waits :
     (step opening 0 (Await 1) ≡ None)
     × (step opening 0 (Await 0) ≡ Some (opening, reply.Done))
@@ -85,8 +88,11 @@ unfolding step
 seen_so = refl
 
 -- A session that loads leaves the loop as it was, and the loop's close does not.
-goes_on_without_loop : GoesOnWithoutLoop (record { opening = opening; made = loaded }) (record { opening = opening; made = unloaded })
-goes_on_without_loop = record { opening = refl; begins = (by 0 (Unload (codes "mk")) reply.Done ∷ [], refl); own = refl }
+goes_on_without_loop : GoesOnWithoutLoop (record { opening = opening; made = loaded })
+    (record { opening = opening; made = unloaded })
+goes_on_without_loop =
+    record { opening = refl; begins = (by 0 (Unload (codes "mk")) reply.Done ∷ [], refl); own = refl }
 
-not_without_loop : GoesOnWithoutLoop (record { opening = opening; made = unloaded }) (record { opening = opening; made = loaded_again }) → ⊥
+not_without_loop : GoesOnWithoutLoop (record { opening = opening; made = unloaded })
+    (record { opening = opening; made = loaded_again }) → ⊥
 not_without_loop goes_on = let wrong : 1 ≡ 0 = ap length goes_on.own in cc

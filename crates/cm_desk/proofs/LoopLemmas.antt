@@ -1,5 +1,7 @@
--- What a history says of the loop: what is counted in it, how it stands after entries of others, and what a landing tells.
-use Rattle.std.proofs.Common.{◌≡◌, ℕ, suc, ◌+◌, Bool, true, false, List, [], ◌∷◌, ◌++◌, length, length-append, Option, Some, refl, sym, ap, subst, ◌∙◌, cond, arith}
+-- What a history says of the loop: what is counted in it, how it stands after entries of others, and what a landing
+-- tells.
+use Rattle.std.proofs.Common.{◌≡◌, ℕ, suc, ◌+◌, Bool, true, false, List, [], ◌∷◌, ◌++◌, length}
+use Rattle.std.proofs.Common.{length-append, Option, Some, refl, sym, ap, subst, ◌∙◌, cond, arith}
 use Rattle.std.specs.Prelude.{◌-◌, ◌≤◌, ◌==◌, nat_lt, not, ◌&&◌}
 use Rattle.std.proofs.Math.Nat.{zero-add}
 use Rattle.std.proofs.lemmas.Bool.Decides.{nat_tests}
@@ -62,26 +64,35 @@ sum_of : (a b c n m k : ℕ) → b ≡ a + n → c ≡ b + m → k ≡ n + m →
 sum_of a b c n m k first rest all = omega (arith, first, rest, all)
 
 -- From where so much was told as requests have outcomes, as many more have one as decisions are told.
-decided_from : (made : List Entry) (s : State) (so_far : List Decision) → so_far ≡ decisions_from 0 s.outcomes → LegalFrom s made → TicketsFrom so_far (moments s made)
+decided_from : (made : List Entry) (s : State) (so_far : List Decision) → so_far ≡ decisions_from 0 s.outcomes
+    → LegalFrom s made → TicketsFrom so_far (moments s made)
     → length (state_after s made).outcomes ≡ length so_far + decided_in made
-decided_from [] s so_far are legal right = sym (length_decisions 0 s.outcomes) ∙ ap length (sym are) ∙ no_more (length so_far)
+decided_from [] s so_far are legal right =
+    sym (length_decisions 0 s.outcomes) ∙ ap length (sym are) ∙ no_more (length so_far)
 decided_from (e ∷ made) s so_far are legal right =
     let first = step_of (step s e.who e.call) e.reply (λ each. LegalFrom each made) legal in
     let told = subst (TicketsFrom so_far) (moments_cons s first.0 e made first.1) right in
-    let all : length (so_far ++ ticketed (decisions_in e.reply)) ≡ length so_far + length (ticketed (decisions_in e.reply)) = length-append so_far (ticketed (decisions_in e.reply)) in
+    let all : length (so_far ++ ticketed (decisions_in e.reply))
+    ≡ length so_far + length (ticketed (decisions_in e.reply)) =
+    length-append so_far (ticketed (decisions_in e.reply)) in
     let rest = decided_from made first.0 (so_far ++ ticketed (decisions_in e.reply)) told.0.each_once first.2 told.1 in
     ap (λ (t : State). length t.outcomes) (after_cons s first.0 e made first.1)
-    ∙ sum_of (length so_far) (length (so_far ++ ticketed (decisions_in e.reply))) (length (state_after first.0 made).outcomes) (length (ticketed (decisions_in e.reply))) (decided_in made) (decided_in (e ∷ made)) all rest
+    ∙ sum_of (length so_far) (length (so_far ++ ticketed (decisions_in e.reply)))
+    (length (state_after first.0 made).outcomes) (length (ticketed (decisions_in e.reply))) (decided_in made)
+    (decided_in (e ∷ made)) all rest
     (decided_append (e ∷ []) made ∙ ap (λ n. n + decided_in made) (zero-add (length (ticketed (decisions_in e.reply)))))
 
 -- After a legal history from boot as many requests are decided as it tells decisions.
-pub decided_after : (d : Description) (blanks : Blanks) (sessions : ℕ) (made : List Entry) → IsLegal d blanks sessions made
+pub decided_after : (d : Description) (blanks : Blanks) (sessions : ℕ) (made : List Entry)
+    → IsLegal d blanks sessions made
     → length (state_after (boot d blanks sessions) made).outcomes ≡ decided_in made
 decided_after d blanks sessions made legal =
-    decided_from made (boot d blanks sessions) [] refl legal (tickets_from (boot d blanks sessions) [] made refl legal) ∙ zero-add (decided_in made)
+    decided_from made (boot d blanks sessions) [] refl legal (tickets_from (boot d blanks sessions) [] made refl legal)
+    ∙ zero-add (decided_in made)
 
 -- What every desk keeps of its history.
-pub right_of : (d : Description) (blanks : Blanks) (sessions : ℕ) (made : List Entry) (now : State) (entries boxes : ℕ) → Keeps (boot d blanks sessions) made now entries boxes
+pub right_of : (d : Description) (blanks : Blanks) (sessions : ℕ) (made : List Entry) (now : State) (entries boxes : ℕ)
+    → Keeps (boot d blanks sessions) made now entries boxes
     → IsRight (record { opening = boot d blanks sessions; made = made })
 right_of d blanks sessions made now entries boxes kept = record {
   valid = kept.valid;
@@ -100,7 +111,8 @@ clash false b is both = cc
 clash true b is both = cc
 
 -- who is not the loop makes console calls
-other_is_console : (s : State) (who : ℕ) (call : Call) → (who == s.sessions) ≡ false → is_enabled s who call ≡ true → IsConsole call
+other_is_console : (s : State) (who : ℕ) (call : Call) → (who == s.sessions) ≡ false → is_enabled s who call ≡ true
+    → IsConsole call
 other_is_console s who (Begin n) other enabled = absurd (clash (who == s.sessions) (can_begin s n) other enabled)
 other_is_console s who (End n) other enabled = absurd (clash (who == s.sessions) (can_end s n) other enabled)
 other_is_console s who Close other enabled = absurd (clash (who == s.sessions) (can_close s) other enabled)
@@ -120,22 +132,28 @@ head_other : (b : Bool) (x : Entry) (xs : List Entry) → cond b (x ∷ xs) xs �
 head_other false x xs none = (refl, none)
 head_other true x xs none = cc
 
-stands_on : (rest : List Entry) (opening : State) (made : List Entry) (loop : ℕ) → LegalFrom opening (made ++ rest) → opening.sessions ≡ loop → entries_by loop rest ≡ []
+stands_on : (rest : List Entry) (opening : State) (made : List Entry) (loop : ℕ) → LegalFrom opening (made ++ rest)
+    → opening.sessions ≡ loop → entries_by loop rest ≡ []
     → StandsAlike (record { opening = opening; made = made }) (record { opening = opening; made = made ++ rest })
-stands_on [] opening made loop legal is none = rw (append-nil made) (record { alike = record { begun = refl; aloft = refl }; loop = same (state_after opening made) })
+stands_on [] opening made loop legal is none =
+    rw (append-nil made)
+    (record { alike = record { begun = refl; aloft = refl }; loop = same (state_after opening made) })
 stands_on (e ∷ rest) opening made loop legal is none =
     let h : List Entry → History = λ entries. record { opening = opening; made = entries } in
     let before = state_after opening made in
     let after = state_after opening (made ++ e ∷ []) in
     let apart = head_other (e.who == loop) e (entries_by loop rest) none in
     let stepped = step_at made opening e rest legal in
-    let grows : Grows (h made) (h (made ++ e ∷ [])) e.who e.call e.reply = record { opening = refl; made = refl; stepped = stepped } in
+    let grows : Grows (h made) (h (made ++ e ∷ [])) e.who e.call e.reply =
+    record { opening = refl; made = refl; stepped = stepped } in
     let is_step = step-IsStep before e.who e.call (after, e.reply) stepped in
     let other : (e.who == before.sessions) ≡ false = rw (sessions_stay made opening ∙ is) apart.0 in
-    let console = other_is_console before e.who e.call other (step-enabled before e.who e.call (after, e.reply) stepped) in
+    let console =
+    other_is_console before e.who e.call other (step-enabled before e.who e.call (after, e.reply) stepped) in
     let whole : (made ++ e ∷ []) ++ rest ≡ made ++ e ∷ rest = append_assoc made (e ∷ []) rest in
     let later = stands_on rest opening (made ++ e ∷ []) loop (rw whole legal) is apart.1 in
-    let later_here : StandsAlike (h (made ++ e ∷ [])) (h (made ++ e ∷ rest)) = subst (λ (entries : List Entry). StandsAlike (h (made ++ e ∷ [])) (h entries)) whole later in
+    let later_here : StandsAlike (h (made ++ e ∷ [])) (h (made ++ e ∷ rest)) =
+    subst (λ (entries : List Entry). StandsAlike (h (made ++ e ∷ [])) (h entries)) whole later in
     let now = called_alike (h made) (h (made ++ e ∷ [])) e.who e.call e.reply console grows in
     let loop_now : SameLoop before after = rw is_step.next (effect-SameLoop before e.call e.reply console) in
     record {
@@ -144,15 +162,19 @@ stands_on (e ∷ rest) opening made loop legal is none =
     }
 
 -- Entries of others leave the loop as it stood.
-pub stands_alike : (old new : History) → LegalFrom new.opening new.made → GoesOnWithoutLoop old new → StandsAlike old new
+pub stands_alike : (old new : History) → LegalFrom new.opening new.made → GoesOnWithoutLoop old new
+    → StandsAlike old new
 stands_alike old new legal goes_on =
     let rest = goes_on.begins.0 in
     let whole : old.made ++ rest ≡ new.made = goes_on.begins.1 in
     let loop = old.opening.sessions in
     let none : entries_by loop rest ≡ [] =
     append_cancel_left (entries_by loop old.made) (entries_by loop rest) []
-    (sym (filter-append (λ (e : Entry). e.who == loop) old.made rest) ∙ ap (entries_by loop) whole ∙ goes_on.own ∙ sym (append-nil (entries_by loop old.made))) in
-    let legal_here : LegalFrom old.opening (old.made ++ rest) = subst (λ (s : State). LegalFrom s (old.made ++ rest)) goes_on.opening (subst (LegalFrom new.opening) (sym whole) legal) in
+    (sym (filter-append (λ (e : Entry). e.who == loop) old.made rest) ∙ ap (entries_by loop) whole ∙ goes_on.own
+    ∙ sym (append-nil (entries_by loop old.made))) in
+    let legal_here : LegalFrom old.opening (old.made ++ rest) =
+    subst (λ (s : State). LegalFrom s (old.made ++ rest)) goes_on.opening
+    (subst (LegalFrom new.opening) (sym whole) legal) in
     subst (λ (h : History). StandsAlike old h)
     (λ i. record { opening = sym goes_on.opening i; made = whole i })
     (stands_on rest old.opening old.made loop legal_here refl none)
@@ -160,7 +182,8 @@ stands_alike old new legal goes_on =
 -- ---- Landings
 
 -- A landing tells what the cycle of the state tells that its begin left.
-pub lands_as_begun : (h : History) (begun : State) → LegalFrom h.opening h.made → begun_of h ≡ Some begun → (cycle (now_of h)).happened ≡ (cycle begun).happened
+pub lands_as_begun : (h : History) (begun : State) → LegalFrom h.opening h.made → begun_of h ≡ Some begun
+    → (cycle (now_of h)).happened ≡ (cycle begun).happened
 lands_as_begun h begun legal is =
     let aloft = subst (λ (o : Option State). HasBegun o (now_of h)) is (has_begun h legal) in
     sym (core_cycle (now_of h)) ∙ ap (λ (t : State). (cycle t).happened) aloft.same ∙ core_cycle begun

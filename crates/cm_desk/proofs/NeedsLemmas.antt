@@ -10,7 +10,8 @@ use Rattle.cm_hardware.specs.Wiring.{Wired, Mounted, most_failures, all_joints, 
 use Rattle.cm_places.specs.Placed.{Placed}
 use Rattle.rt_flight.specs.Flights.{TellsNothing}
 use Rattle.rt_flight.specs.Workspaces.{WorkspaceFacts, IsFitted}
-use Rattle.cm_desk.specs.CycleNeeds.{failing, joints, stands_for, HasRoom, HasRoomOf, IsBuiltAs, IsSizeOf, IsWorkspaceFor, AreKept, AreWorkspacesFor, AreWorkspaces}
+use Rattle.cm_desk.specs.CycleNeeds.{failing, joints, stands_for, HasRoom, HasRoomOf, IsBuiltAs}
+use Rattle.cm_desk.specs.CycleNeeds.{IsSizeOf, IsWorkspaceFor, AreKept, AreWorkspacesFor, AreWorkspaces}
 use Rattle.cm_desk.specs.declared.needs.HardwareSize.{HardwareSize}
 
 -- ---- Components
@@ -31,11 +32,20 @@ pub joints_of : (d : Description) (w : Wired) → IsBuiltAs d w → all_joints w
 joints_of d w built = joints_are w.components ∙ ap joints (sym built)
 
 -- in room that is enough nothing is told
-pub tells_nothing : (d : Description) (placed : Placed) (order : List Member) (r : RecordRoom) → HasRoom d placed order r → TellsNothing r
-tells_nothing d placed order r has = record { no_failure = has.no_failure; none_ran = has.none_ran; no_body = has.no_body; none_stopped = has.none_stopped }
+pub tells_nothing : (d : Description) (placed : Placed) (order : List Member) (r : RecordRoom)
+    → HasRoom d placed order r → TellsNothing r
+tells_nothing d placed order r has =
+    record {
+      no_failure = has.no_failure;
+      none_ran = has.none_ran;
+      no_body = has.no_body;
+      none_stopped =
+          has.none_stopped;
+    }
 
 -- room in which nothing is told is enough where nobody flies, if it is for the hardware
-enough_for_none : (d : Description) (placed : Placed) (s : HardwareSize) (o : Option RecordRoom) → IsSizeOf d s → IfSome o TellsNothing → IsSomeAnd o (HasRoomOf s)
+enough_for_none : (d : Description) (placed : Placed) (s : HardwareSize) (o : Option RecordRoom) → IsSizeOf d s
+    → IfSome o TellsNothing → IsSomeAnd o (HasRoomOf s)
     → IsSomeAnd o (HasRoom d placed [])
 enough_for_none d placed s None size tells has = absurd has
 enough_for_none d placed s (Some r) size tells has = record {
@@ -51,14 +61,17 @@ enough_for_none d placed s (Some r) size tells has = record {
   stops = omega arith;
 }
 
-pub room_stays : (d : Description) (placed : Placed) (s : HardwareSize) (order : List Member) (o : Option RecordRoom) → IsSizeOf d s → (length order == 0) ≡ true → IfSome o TellsNothing
+pub room_stays : (d : Description) (placed : Placed) (s : HardwareSize) (order : List Member) (o : Option RecordRoom)
+    → IsSizeOf d s → (length order == 0) ≡ true → IfSome o TellsNothing
     → IsSomeAnd o (HasRoomOf s) → IsSomeAnd o (HasRoom d placed order)
 room_stays d placed s order o size nobody tells has =
-    subst (λ (ms : List Member). IsSomeAnd o (HasRoom d placed ms)) (sym (no_item order nobody)) (enough_for_none d placed s o size tells has)
+    subst (λ (ms : List Member). IsSomeAnd o (HasRoom d placed ms)) (sym (no_item order nobody))
+    (enough_for_none d placed s o size tells has)
 
 -- ---- Workspaces
 
-stands_pushed : (ms : List Member) (m : Member) (ss : List WorkspaceFacts) (s : WorkspaceFacts) → AreWorkspacesFor ms ss → IsWorkspaceFor m s → AreWorkspacesFor (ms ++ m ∷ []) (ss ++ s ∷ [])
+stands_pushed : (ms : List Member) (m : Member) (ss : List WorkspaceFacts) (s : WorkspaceFacts) → AreWorkspacesFor ms ss
+    → IsWorkspaceFor m s → AreWorkspacesFor (ms ++ m ∷ []) (ss ++ s ∷ [])
 stands_pushed [] m [] s all one = (one, tt)
 stands_pushed [] m (x ∷ ss) s all one = absurd all
 stands_pushed (n ∷ ms) m [] s all one = absurd all
@@ -70,10 +83,12 @@ stands_same [] [] all = refl
 stands_same [] (x ∷ ss) all = absurd all
 stands_same (m ∷ ms) [] all = absurd all
 stands_same (m ∷ ms) (s ∷ ss) all =
-    ap₂ (λ (first : Member) (rest : List Member). first ∷ rest) (ap₂ (λ a b. record { serial = a; place = b }) all.0.serial all.0.place) (stands_same ms ss all.1)
+    ap₂ (λ (first : Member) (rest : List Member). first ∷ rest)
+    (ap₂ (λ a b. record { serial = a; place = b }) all.0.serial all.0.place) (stands_same ms ss all.1)
 
 -- that of one more comes last
-pub workspaces_pushed : (placed : Placed) (ms : List Member) (m : Member) (ss : List WorkspaceFacts) (s : WorkspaceFacts) → AreWorkspaces placed ms ss → IsWorkspaceFor m s → IsFitted placed s
+pub workspaces_pushed : (placed : Placed) (ms : List Member) (m : Member) (ss : List WorkspaceFacts)
+    (s : WorkspaceFacts) → AreWorkspaces placed ms ss → IsWorkspaceFor m s → IsFitted placed s
     → AreWorkspaces placed (ms ++ m ∷ []) (ss ++ s ∷ [])
 workspaces_pushed placed ms m ss s all one fitted = record {
   stands = stands_pushed ms m ss s all.stands one;
@@ -81,5 +96,7 @@ workspaces_pushed placed ms m ss s all one fitted = record {
 }
 
 -- the workspaces of controllers, with these, are kept
-pub kept_for : (placed : Placed) (ms : List Member) (ss : List WorkspaceFacts) (members : List Member) → AreWorkspaces placed ms ss → members ≡ ms → AreKept placed ss members
-kept_for placed ms ss members are same = record { fitted = are.fitted; ordered = same ∙ sym (stands_same ms ss are.stands) }
+pub kept_for : (placed : Placed) (ms : List Member) (ss : List WorkspaceFacts) (members : List Member)
+    → AreWorkspaces placed ms ss → members ≡ ms → AreKept placed ss members
+kept_for placed ms ss members are same =
+    record { fitted = are.fitted; ordered = same ∙ sym (stands_same ms ss are.stands) }

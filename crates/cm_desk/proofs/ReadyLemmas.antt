@@ -14,8 +14,10 @@ use Rattle.cm_desk.specs.declared.resources.CycleBuffers.{CycleBuffers}
 use Rattle.cm_desk.specs.declared.needs.CycleNeeds.{CycleNeeds}
 use Rattle.cm_desk.proofs.NeedsLemmas.{kept_for, tells_nothing}
 
-module _ (b left b' : CycleResources) (k r : Box CycleContext Global) (h : CycleContext) (buffers : CycleBuffers) (home : IsHome b.robot.value b.ending.value b.members.value.items b.erred.value.items b.next_lists.value k)
-    (away : left ≡ record b { idle_context = None }) (taken : h ≡ k.value) (back : b' ≡ record left { idle_context = Some r; members = b'.members; buffers = buffers })
+module _ (b left b' : CycleResources) (k r : Box CycleContext Global) (h : CycleContext) (buffers : CycleBuffers)
+    (home : IsHome b.robot.value b.ending.value b.members.value.items b.erred.value.items b.next_lists.value k)
+    (away : left ≡ record b { idle_context = None }) (taken : h ≡ k.value)
+    (back : b' ≡ record left { idle_context = Some r; members = b'.members; buffers = buffers })
     (members : b'.members.value ≡ r.value.order) (refit : IsRefitted h r.value) where
   idle_context : b'.idle_context ≡ Some r
   idle_context = ap (λ (x : CycleResources). x.idle_context) back
@@ -32,34 +34,53 @@ module _ (b left b' : CycleResources) (k r : Box CycleContext Global) (h : Cycle
   -- it is at home again, and all else stays
   pub made_ready : AreKept h.robot.places buffers.workspaces.items r.value.order.items → IsMadeReady b b'
   made_ready kept =
-      let ending : b'.ending.value ≡ b.ending.value = ap (λ (x : CycleResources). x.ending.value) back ∙ ap (λ (x : CycleResources). x.ending.value) away in
-      let erred : b'.erred.value.items ≡ b.erred.value.items = ap (λ (x : CycleResources). x.erred.value.items) back ∙ ap (λ (x : CycleResources). x.erred.value.items) away in
-      let lists : b'.next_lists.value ≡ b.next_lists.value = ap (λ (x : CycleResources). x.next_lists.value) back ∙ ap (λ (x : CycleResources). x.next_lists.value) away in
+      let ending : b'.ending.value ≡ b.ending.value =
+      ap (λ (x : CycleResources). x.ending.value) back ∙ ap (λ (x : CycleResources). x.ending.value) away in
+      let erred : b'.erred.value.items ≡ b.erred.value.items =
+      ap (λ (x : CycleResources). x.erred.value.items) back ∙ ap (λ (x : CycleResources). x.erred.value.items) away in
+      let lists : b'.next_lists.value ≡ b.next_lists.value =
+      ap (λ (x : CycleResources). x.next_lists.value) back ∙ ap (λ (x : CycleResources). x.next_lists.value) away in
       record {
-        kept = subst (λ (ms : List Member). AreKept b.robot.value.places b'.buffers.workspaces.items ms) (sym (ap (λ x. x.items) members))
-            (subst (λ (s : CycleBuffers). AreKept b.robot.value.places s.workspaces.items r.value.order.items) (sym buffers_are)
+        kept = subst (λ (ms : List Member). AreKept b.robot.value.places b'.buffers.workspaces.items ms)
+            (sym (ap (λ x. x.items) members))
+            (subst (λ (s : CycleBuffers). AreKept b.robot.value.places s.workspaces.items r.value.order.items)
+            (sym buffers_are)
             (subst (λ (g : Robot). AreKept g.places buffers.workspaces.items r.value.order.items) aboard kept));
-        home = subst (λ (o : Option (Box CycleContext Global)). IsSomeAnd o (IsHome b'.robot.value b'.ending.value b'.members.value.items b'.erred.value.items b'.next_lists.value)) (sym idle_context) (record {
-          robot = ap (λ (x : CycleContext). x.robot) refit.context ∙ aboard ∙ sym robot;
-          ending = ap (λ (x : CycleContext). x.ending) refit.context ∙ ap (λ (x : CycleContext). x.ending) taken ∙ home.ending ∙ sym ending;
-          order = sym (ap (λ x. x.items) members);
-          erred = refit.erred ∙ ap (λ (x : CycleContext). x.erred.items) taken ∙ home.erred ∙ sym erred;
-          next_lists = ap (λ (x : CycleContext). x.lists) refit.context ∙ ap (λ (x : CycleContext). x.lists) taken ∙ home.next_lists ∙ sym lists;
-          told = refit.told;
-        });
-        resources = back ∙ ap (λ (x : CycleResources). record x { idle_context = Some r; members = b'.members; buffers = buffers }) away
-            ∙ ap₂ (λ (o : Option (Box CycleContext Global)) (s : CycleBuffers). record b { idle_context = o; members = b'.members; buffers = s }) (sym idle_context) (sym buffers_are);
+        home = subst
+            (λ (o : Option (Box CycleContext Global)). IsSomeAnd o
+            (IsHome b'.robot.value b'.ending.value b'.members.value.items b'.erred.value.items b'.next_lists.value))
+            (sym idle_context) (record {
+              robot = ap (λ (x : CycleContext). x.robot) refit.context ∙ aboard ∙ sym robot;
+              ending = ap (λ (x : CycleContext). x.ending) refit.context ∙ ap (λ (x : CycleContext). x.ending) taken
+                  ∙ home.ending ∙ sym ending;
+              order = sym (ap (λ x. x.items) members);
+              erred = refit.erred ∙ ap (λ (x : CycleContext). x.erred.items) taken ∙ home.erred ∙ sym erred;
+              next_lists =
+                  ap (λ (x : CycleContext). x.lists) refit.context ∙ ap (λ (x : CycleContext). x.lists) taken
+                  ∙ home.next_lists ∙ sym lists;
+              told = refit.told;
+            });
+        resources = back
+            ∙ ap (λ (x : CycleResources). record x { idle_context = Some r; members = b'.members; buffers = buffers })
+            away
+            ∙ ap₂ (λ (o : Option (Box CycleContext Global)) (s : CycleBuffers). record b
+            { idle_context = o; members = b'.members; buffers = s }) (sym idle_context) (sym buffers_are);
       }
 
 -- What is at home, with what was left over, is ready as it stands.
-pub ready_already : (b : CycleResources) → IsAtHome b → AreKept b.robot.value.places b.buffers.workspaces.items b.members.value.items → IsMadeReady b b
+pub ready_already : (b : CycleResources) → IsAtHome b
+    → AreKept b.robot.value.places b.buffers.workspaces.items b.members.value.items → IsMadeReady b b
 ready_already b home kept = record { kept = kept; home = home; resources = refl }
 
 -- new needs come to it, where no update failed,
-pub refit_new : (d : Description) (placed : Placed) (order : List Member) (loaded : ℕ) (new : CycleNeeds) (k : CycleContext) → AreNeeds d placed order loaded new → k.erred.items ≡ []
+pub refit_new : (d : Description) (placed : Placed) (order : List Member) (loaded : ℕ) (new : CycleNeeds)
+    (k : CycleContext) → AreNeeds d placed order loaded new → k.erred.items ≡ []
     → IsRefitted k (record k { order = new.order; erred = new.erred; room = Some new.room })
-refit_new d placed order loaded new k all none = record { context = refl; erred = all.none_erred ∙ sym none; told = tells_nothing d placed order new.room all.told }
+refit_new d placed order loaded new k all none =
+    record { context = refl; erred = all.none_erred ∙ sym none; told = tells_nothing d placed order new.room all.told }
 
 -- and are kept
-pub kept_new : (d : Description) (placed : Placed) (order : List Member) (loaded : ℕ) (new : CycleNeeds) → AreNeeds d placed order loaded new → AreKept placed new.workspaces.items new.order.items
-kept_new d placed order loaded new all = kept_for placed order new.workspaces.items new.order.items all.workspaces all.order
+pub kept_new : (d : Description) (placed : Placed) (order : List Member) (loaded : ℕ) (new : CycleNeeds)
+    → AreNeeds d placed order loaded new → AreKept placed new.workspaces.items new.order.items
+kept_new d placed order loaded new all =
+    kept_for placed order new.workspaces.items new.order.items all.workspaces all.order

@@ -1,6 +1,7 @@
 //! Who is active, as it is looked up.
 
-ghost use Rattle.std.specs.Prelude.{◌≡◌, ◌<◌, ◌≤◌, ◌^◌, ◌==◌, true, false, [], length, position, slice_get, slice_index_or, vec_capacity, is_some, All, IfOk, IfSome, None, Some};
+ghost use Rattle.std.specs.Prelude.{◌≡◌, ◌<◌, ◌≤◌, ◌^◌, ◌==◌, true, false, [], length, position, slice_get};
+ghost use Rattle.std.specs.Prelude.{slice_index_or, vec_capacity, is_some, All, IfOk, IfSome, None, Some};
 ghost use Rattle.std.specs.List.{list_any};
 ghost use Rattle.cm_desk.specs.Calls.ActiveSets.{IsPut, IsIndexedAnew};
 ghost use Rattle.cm_desk.specs.ActiveSet.{TellsActive, AreAt, serials_of, is_listed, noted};
@@ -100,7 +101,8 @@ impl ActiveSet {
         self.current
     }
 
-    /// Others may be active now: who is active is looked at anew, and the order is not the one of now. It takes no memory.
+    /// Others may be active now: who is active is looked at anew, and the order is not the one of now. It takes no
+    /// memory.
     pub(crate) fn look<C: Controller>(&mut self, slots: &[Slot<C>])
         requires { All (λ l. l.place < length self.old.active) slots.now }
         ensures active { TellsActive (length self.old.active) slots.now self.new.active }
@@ -194,7 +196,8 @@ fn index_of<C: Controller>(slots: &[Slot<C>], serial: u32) -> u32
     position_of(slots, serial).unwrap_or(0) as u32
 }
 
-/// Where the controller of this serial stands if those of loaded ones rise. They do; who asks looks whether it stands there.
+/// Where the controller of this serial stands if those of loaded ones rise. They do; who asks looks whether it stands
+/// there.
 fn near<C: Controller>(slots: &[Slot<C>], serial: u32) -> usize
     ensures { result ≤ length slots.now }
 {

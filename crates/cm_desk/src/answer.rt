@@ -111,8 +111,8 @@ impl<C: Controller> Works<C> {
 }
 
 impl<C: Controller> Works<C> {
-    /// A request comes to wait under the next ticket, where the loop is open and fewer wait than can wait. Where memory ran out nothing has
-    /// changed.
+    /// A request comes to wait under the next ticket, where the loop is open and fewer wait than can wait. Where memory
+    /// ran out nothing has changed.
     fn ask(&mut self, alloc: Global, request: Request) -> Result<Reply, Memory>
         ensures made { IfOk result
             (IsAnswered (request_reply self.old) (request_effect self.old request) self.new) }

@@ -1,6 +1,8 @@
-//! The begin of a cycle: those that are to stand in are asked for, the requests that wait are decided, and what the cycle needs is taken.
+//! The begin of a cycle: those that are to stand in are asked for, the requests that wait are decided, and what the
+//! cycle needs is taken.
 
-ghost use Rattle.std.specs.Prelude.{◌≡◌, ◌<◌, ◌≤◌, ◌==◌, ◌++◌, ◌&&◌, [], false, length, map, slice_get, vec_capacity, Some, List, IfOk, OnOk, OnErr};
+ghost use Rattle.std.specs.Prelude.{◌≡◌, ◌<◌, ◌≤◌, ◌==◌, ◌++◌, ◌&&◌, [], false, length, map};
+ghost use Rattle.std.specs.Prelude.{slice_get, vec_capacity, Some, List, IfOk, OnOk, OnErr};
 ghost use Rattle.cm_model.specs.Boundary.{waiting, concluded, with_outcome, all_concluded, boundary};
 ghost use Rattle.cm_model.specs.Commit.{seen};
 ghost use Rattle.cm_model.specs.Serials.{IsNumbered};
@@ -11,7 +13,8 @@ ghost use Rattle.request_plan.specs.Acts.{IsSwitchOf, IsMoveOf};
 ghost use Rattle.request_plan.specs.Plans.{IsPlanOf, AreConclusionsOf};
 ghost use Rattle.cm_desk.specs.CycleNeeds.{AreNeeds};
 ghost use Rattle.cm_desk.specs.CycleResources.{fallbacks_at, stand_ins_for, CanBePrepared, IsAtHome, IsMadeReady};
-ghost use Rattle.cm_desk.specs.Begin.{IsNext, IsLeftOf, CanAct, CanBegin, HasBegun, CanTakeOff, HasTakenOff, none_waits};
+ghost use Rattle.cm_desk.specs.Begin.{IsNext, IsLeftOf, CanAct, CanBegin, HasBegun};
+ghost use Rattle.cm_desk.specs.Begin.{CanTakeOff, HasTakenOff, none_waits};
 
 use crate::active_set::ActiveSet;
 use crate::filling::fill_cells;
@@ -31,10 +34,10 @@ use std::alloc::Global;
 use std::snapshot::Snapshot;
 
 impl<C: Controller> Works<C> {
-    /// The next cycle begins: those that are to stand in are asked for, the requests that wait are decided one after the
-    /// other, each in the state that the one before it left, and the controllers that run then go aloft in a flight, with
-    /// the mail of those that are due. All memory that this and the cycle need is taken before anything changes. It hands
-    /// out the flight, and tells what was decided.
+    /// The next cycle begins: those that are to stand in are asked for, the requests that wait are decided one after
+    /// the other, each in the state that the one before it left, and the controllers that run then go aloft in a
+    /// flight, with the mail of those that are due. All memory that this and the cycle need is taken before anything
+    /// changes. It hands out the flight, and tells what was decided.
     pub fn begin(&mut self, alloc: Global) -> Result<(Flight<C>, Rare<Decision>), Memory>
         requires { CanBegin self.old }
         ensures begun { IfOk result (λ begun. HasBegun self.old self.new begun.0 begun.1) }
@@ -102,7 +105,8 @@ impl<C: Controller> Works<C> {
         Ok((flight, plan.decisions))
     }
 
-    /// What becomes of those that are to stand in and of the requests that wait, and the order of updates after that. Nothing is touched.
+    /// What becomes of those that are to stand in and of the requests that wait, and the order of updates after that.
+    /// Nothing is touched.
     fn plan(&self, alloc: Global) -> Result<Plan, Memory>
         requires down { self.now.aloft ≡ false }
         requires steady { IsSteady self.now }
@@ -182,7 +186,8 @@ impl<C: Controller> Works<C> {
         Ok(lives)
     }
 
-    /// All that is concluded is done, one after the other, in a state in which nobody is to stand in any more. It takes no memory.
+    /// All that is concluded is done, one after the other, in a state in which nobody is to stand in any more. It takes
+    /// no memory.
     fn carry_out(&mut self, first: Option<Conclusion>, conclusions: Vec<Conclusion>)
         requires down { self.old.aloft ≡ false }
         requires can { (s : State) × IsLeftOf s self.old first conclusions.items }
@@ -352,8 +357,8 @@ fn make_places<C: Controller>(
     Ok(())
 }
 
-/// The cycle of this number takes off: the mail of those that are due goes aloft, the boxes of those that run leave their slots, and come
-/// to their cells with what works in the cycle. It takes no memory.
+/// The cycle of this number takes off: the mail of those that are due goes aloft, the boxes of those that run leave
+/// their slots, and come to their cells with what works in the cycle. It takes no memory.
 #[inline(always)]
 fn take_off<C: Controller>(
     slots: &mut Slots<C>,

@@ -1,8 +1,11 @@
 //! The console's calls on one loaded controller. Where memory ran out nothing has changed.
 
-ghost use Rattle.std.specs.Prelude.{◌≡◌, ◌<◌, true, false, length, option_map, slice_get, Some, IsSomeAnd, IfOk, OnErr, MatchOption};
+ghost use Rattle.std.specs.Prelude.{◌≡◌, ◌<◌, true, false, length, option_map, slice_get};
+ghost use Rattle.std.specs.Prelude.{Some, IsSomeAnd, IfOk, OnErr, MatchOption};
 ghost use Rattle.cm_document.specs.Params.{kind_of};
-ghost use Rattle.cm_model.specs.Console.{configure_reply, configure_effect, cleanup_reply, cleanup_effect, unload_reply, unload_effect, rate_reply, rate_effect, send_reply, send_refusals, send_effect, reply_on, moves_out};
+ghost use Rattle.cm_model.specs.Console.{configure_reply, configure_effect, cleanup_reply, cleanup_effect};
+ghost use Rattle.cm_model.specs.Console.{unload_reply, unload_effect, rate_reply, rate_effect, send_reply};
+ghost use Rattle.cm_model.specs.Console.{send_refusals, send_effect, reply_on, moves_out};
 ghost use Rattle.cm_model.specs.Kinds.{are_ranged};
 ghost use Rattle.cm_model.specs.State.{is_active};
 ghost use Rattle.cm_model.specs.Steady.{IsSteady};
@@ -38,7 +41,8 @@ impl<C: Controller> Works<C> {
         }
     }
 
-    /// The loaded controller that stands there, which is not active, gets its described parameters. With any fault it stays as it was.
+    /// The loaded controller that stands there, which is not active, gets its described parameters. With any fault it
+    /// stays as it was.
     #[tactic(auto, using(crate::proofs::WorksLemmas::can_be_configured, cm_document::proofs::ValidParts::described_rate_is_some))]
     fn configure_at(&mut self, alloc: Global, index: usize) -> Result<(), CfgFault>
         requires { IsSomeAnd (slice_get self.old.loaded index) (λ l. is_active l ≡ false) }

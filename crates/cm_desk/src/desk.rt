@@ -1,6 +1,7 @@
 //! The desk: the manager at work, with the history of all that it did.
 
-ghost use Rattle.std.specs.Prelude.{◌≡◌, ◌<◌, ◌≤◌, ◌+◌, true, [], map, length, vec_capacity, option_map, IfOk, OnOk, MatchOption, MatchResult};
+ghost use Rattle.std.specs.Prelude.{◌≡◌, ◌<◌, ◌≤◌, ◌+◌, true, [], map, length, vec_capacity};
+ghost use Rattle.std.specs.Prelude.{option_map, IfOk, OnOk, MatchOption, MatchResult};
 ghost use Rattle.cm_document.specs.declared.call.Call.TheVariants as call;
 ghost use Rattle.cm_model.specs.Boundary.{begin_reply, close_reply};
 ghost use Rattle.cm_model.specs.Cycle.{cycle};
@@ -102,8 +103,8 @@ impl<C: Controller> Desk<C> {
         Ok((answer.reply, answer.given))
     }
 
-    /// What became of the request of a ticket, asked by a session. Where it is not decided, None, and nothing changes. Want of memory
-    /// changes nothing either; a history that would have too many entries wants memory too.
+    /// What became of the request of a ticket, asked by a session. Where it is not decided, None, and nothing changes.
+    /// Want of memory changes nothing either; a history that would have too many entries wants memory too.
     pub fn told(&mut self, alloc: Global, who: u32, ticket: u32) -> Result<Option<Outcome>, Memory>
         requires session { who < self.old.opening.sessions }
         ensures made { IfOk result
@@ -122,8 +123,9 @@ impl<C: Controller> Desk<C> {
         Ok(Some(told))
     }
 
-    /// Whether so many cycles have ended or the loop is closed, asked by a session, which goes on where it is so. Where not, nothing
-    /// changes. Want of memory changes nothing either; a history that would have too many entries wants memory too.
+    /// Whether so many cycles have ended or the loop is closed, asked by a session, which goes on where it is so. Where
+    /// not, nothing changes. Want of memory changes nothing either; a history that would have too many entries wants
+    /// memory too.
     pub fn reached(&mut self, alloc: Global, who: u32, cycles: u64) -> Result<bool, Memory>
         requires session { who < self.old.opening.sessions }
         ensures made { IfOk result
@@ -168,8 +170,8 @@ impl<C: Controller> Desk<C> {
         Ok(flight)
     }
 
-    /// The flight of the cycle that is aloft lands, which is computed, and the loop ends the cycle with the record of the flight. The boxes
-    /// are back then, with what works in a cycle. It takes no memory.
+    /// The flight of the cycle that is aloft lands, which is computed, and the loop ends the cycle with the record of
+    /// the flight. The boxes are back then, with what works in a cycle. It takes no memory.
     pub fn land(&mut self, flight: Flight<C>)
         requires flight { MayLand self.old flight }
         ensures made { Grows self.old self.new self.old.opening.sessions (call.End (now_of self.old).ended)

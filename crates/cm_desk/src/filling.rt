@@ -54,7 +54,8 @@ fn cell_for<C: Controller>(
     Cell::new(workspace, ctl, mail)
 }
 
-/// The controllers leave their cells: their boxes and their workspaces are apart again, in the order of updates. It takes no memory.
+/// The controllers leave their cells: their boxes and their workspaces are apart again, in the order of updates. It
+/// takes no memory.
 pub(crate) fn empty_cells<C: Controller>(
     cells: &mut Vec<Cell<C>>,
     workspaces: &mut Vec<Workspace>,

@@ -17,7 +17,8 @@ use ctl_trait::Controller;
 use rt_flight::{Cell, CycleContext, Flight, Landing};
 
 impl<C: Controller> Works<C> {
-    /// The flight of the cycle that is aloft comes home, and the cycle ends with what happened in it. It takes no memory.
+    /// The flight of the cycle that is aloft comes home, and the cycle ends with what happened in it. It takes no
+    /// memory.
     pub fn land(&mut self, flight: Flight<C>) -> CycleRecord
         requires { CanLand self.old flight }
         ensures after { self.new ≡ after_cycle self.old (cycle self.old) }
@@ -36,8 +37,9 @@ impl<C: Controller> Works<C> {
     }
 }
 
-/// What a flight brings home comes to its place: the workspaces and the boxes, what the controllers worked on, and the lists, for the next
-/// cycle. Those that failed are stopped, with those that precede them, where there are any. It hands out the record. It takes no memory.
+/// What a flight brings home comes to its place: the workspaces and the boxes, what the controllers worked on, and the
+/// lists, for the next cycle. Those that failed are stopped, with those that precede them, where there are any. It
+/// hands out the record. It takes no memory.
 fn bring_home<C: Controller>(
     slots: &mut Slots<C>,
     active_set: &mut ActiveSet,
@@ -65,7 +67,8 @@ fn bring_home<C: Controller>(
     record
 }
 
-/// Where something failed, those stop that the sets say, and those restart whose chained mode changes. It takes no memory.
+/// Where something failed, those stop that the sets say, and those restart whose chained mode changes. It takes no
+/// memory.
 fn settle<C: Controller>(
     slots: &mut Slots<C>,
     context: &mut CycleContext,

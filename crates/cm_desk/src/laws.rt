@@ -16,7 +16,8 @@ ghost use Rattle.rt_flight.specs.Flights.{FlightFacts};
 ghost use Rattle.cm_desk.specs.Desk.{History, Grows, IsAloftAlike, IsOut, MayLand, begun_of, now_of};
 ghost use Rattle.cm_desk.specs.Desk.{GoesOnWithoutLoop, StandsAlike};
 
-/// A call of a session leaves the cycle that is aloft: a flight that is out stays out, and one that may land may land after it.
+/// A call of a session leaves the cycle that is aloft: a flight that is out stays out, and one that may land may land
+/// after it.
 pub fn console_calls_leave_the_cycle_that_is_aloft()
     ensures alike { (old new : History) (who : ℕ) (call : Call) (r : Reply) → IsConsole call
         → Grows old new who call r → IsAloftAlike old new }

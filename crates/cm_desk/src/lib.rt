@@ -1,5 +1,5 @@
-//! The desk, the one object that changes: the loaded controllers with the console's calls on them, the requests that wait,
-//! and the hardware with its cycles, in which the active controllers are updated.
+//! The desk, the one object that changes: the loaded controllers with the console's calls on them, the requests that
+//! wait, and the hardware with its cycles, in which the active controllers are updated.
 #![tactic(auto)]
 
 pub use book::Book;

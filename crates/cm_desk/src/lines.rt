@@ -3,7 +3,8 @@
 ghost use Rattle.std.specs.Prelude.{◌≡◌, ◌++◌, ◌&&◌, ◌<◌, length, slice_get, Some, false, option_to_list, IfOk, OnOk};
 ghost use Rattle.std.specs.Option.{option_map_or};
 ghost use Rattle.cm_model.specs.Scene.{is_chained_in};
-ghost use Rattle.cm_model.specs.State.{active, is_active, is_chained, precedes_described, controller_line, controller_lines};
+ghost use Rattle.cm_model.specs.State.{active, is_active, is_chained, precedes_described};
+ghost use Rattle.cm_model.specs.State.{controller_line, controller_lines};
 ghost use Rattle.cm_desk.specs.Works.{has_precedent};
 ghost use Rattle.chain_order.specs.Links.{leaders_of};
 
@@ -52,8 +53,8 @@ impl<C: Controller> Works<C> {
         }))
     }
 
-    /// Whether an active controller claims one of the references of this one, whose description this is. Where the relations are at home
-    /// they say it by place; while a cycle is aloft with them, names are compared.
+    /// Whether an active controller claims one of the references of this one, whose description this is. Where the
+    /// relations are at home they say it by place; while a cycle is aloft with them, names are compared.
     pub(crate) fn is_chained(&self, slot: &Slot<C>, controller: &CtlDesc) -> bool
         requires { slice_get self.now.description.controllers slot.now.place ≡ Some controller.now }
         ensures { result ≡ is_chained self.now controller.now }

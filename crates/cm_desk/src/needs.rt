@@ -1,10 +1,13 @@
 //! The memory that a cycle takes when it goes aloft.
 
-ghost use Rattle.std.specs.Prelude.{◌≡◌, ◌+◌, ◌≤◌, ◌<◌, [], true, length, sum_by, vec_len, vec_capacity, IfOk, OnOk, IfSome, IsSomeAnd, All};
+ghost use Rattle.std.specs.Prelude.{◌≡◌, ◌+◌, ◌≤◌, ◌<◌, [], true, length, sum_by, vec_len};
+ghost use Rattle.std.specs.Prelude.{vec_capacity, IfOk, OnOk, IfSome, IsSomeAnd, All};
 ghost use Rattle.cm_places.specs.Placed.{placed_of};
 ghost use Rattle.rt_flight.specs.Flights.{TellsNothing};
 ghost use Rattle.rt_flight.specs.Workspaces.{HasRows, IsFitted};
-ghost use Rattle.cm_desk.specs.CycleNeeds.{AreKept, AreWorkspacesFor, AreWorkspaces, AreNeeds, CanPrepare, CanPrepareFrom, HasRoom, HasRoomOf, HaveNeeds, IsRefitted, IsRun, IsSizeOf, IsWorkspaceFor, outs_at, numbers_at};
+ghost use Rattle.cm_desk.specs.CycleNeeds.{AreKept, AreWorkspacesFor, AreWorkspaces, AreNeeds, CanPrepare};
+ghost use Rattle.cm_desk.specs.CycleNeeds.{CanPrepareFrom, HasRoom, HasRoomOf, HaveNeeds, IsRefitted};
+ghost use Rattle.cm_desk.specs.CycleNeeds.{IsRun, IsSizeOf, IsWorkspaceFor, outs_at, numbers_at};
 
 use crate::resources::CycleBuffers;
 use crate::works::described_at;
@@ -42,8 +45,8 @@ pub(crate) struct HardwareSize {
     pub(crate) joints: usize,
 }
 
-/// What a cycle takes in which these controllers are active, of so many that are loaded: these workspaces where they are theirs, and else
-/// those on the shelf that are, and new ones.
+/// What a cycle takes in which these controllers are active, of so many that are loaded: these workspaces where they
+/// are theirs, and else those on the shelf that are, and new ones.
 pub(crate) fn needs_for(
     alloc: Global,
     checked: &Checked,
@@ -119,8 +122,8 @@ pub(crate) fn prepare(
     )
 }
 
-/// The workspaces are those of these controllers, and it is known who they are: those that are there, where the same flew
-/// last, and else others.
+/// The workspaces are those of these controllers, and it is known who they are: those that are there, where the same
+/// flew last, and else others.
 fn fit_workspaces(
     alloc: Global,
     places: &CtlPlaces,
@@ -166,7 +169,8 @@ fn renew_workspaces(
     Ok(())
 }
 
-/// Workspaces come to the shelf, the first one last: it is looked for from its end. There is room: the call takes no memory.
+/// Workspaces come to the shelf, the first one last: it is looked for from its end. There is room: the call takes no
+/// memory.
 fn put_away(shelf: &mut Vec<Workspace>, workspaces: &mut Vec<Workspace>)
     requires { vec_len shelf.old + vec_len workspaces.old ≤ vec_capacity shelf.old }
     ensures { workspaces.new.items ≡ [] }
@@ -287,8 +291,8 @@ fn ready_standing(
     Ok(())
 }
 
-/// There is room to tell of a cycle of hardware of this size in which these controllers are active: that of the cycle before, if none is
-/// active and it is there still, and else new room.
+/// There is room to tell of a cycle of hardware of this size in which these controllers are active: that of the cycle
+/// before, if none is active and it is there still, and else new room.
 #[tactic(auto, using(crate::proofs::NeedsLemmas::room_stays))]
 fn renew_room(
     alloc: Global,
@@ -310,8 +314,8 @@ fn renew_room(
     make_record(alloc, checked, places, size, order, room, left_over)
 }
 
-/// There is new room to tell of a cycle of hardware of this size in which these controllers are active. It stands apart,
-/// because each begin would else clear the memory that this works on.
+/// There is new room to tell of a cycle of hardware of this size in which these controllers are active. It stands
+/// apart, because each begin would else clear the memory that this works on.
 #[inline(never)]
 fn make_record(
     alloc: Global,

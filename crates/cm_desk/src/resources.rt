@@ -1,13 +1,16 @@
 //! What a cycle works on, at home or aloft.
 
-ghost use Rattle.std.specs.Prelude.{◌≡◌, ℕ, ◌<◌, ◌≤◌, ◌==◌, List, [], true, false, not, None, Some, length, map, find, option_map, vec_len, vec_capacity, IfOk, OnOk, IfSome};
+ghost use Rattle.std.specs.Prelude.{◌≡◌, ℕ, ◌<◌, ◌≤◌, ◌==◌, List, [], true, false, not, None, Some, length};
+ghost use Rattle.std.specs.Prelude.{map, find, option_map, vec_len, vec_capacity, IfOk, OnOk, IfSome};
 ghost use Rattle.cm_document.specs.declared.description.Description.{Description};
 ghost use Rattle.cm_model.specs.State.{State, component_lines, interface_lines};
 ghost use Rattle.cm_model.specs.declared.member.Member.{Member};
 ghost use Rattle.cm_hardware.specs.Holding.{IsHardwareOf, MovesComponent};
 ghost use Rattle.cm_hardware.specs.Shown.{HasLinesFor, Shows};
 ghost use Rattle.stop_plan.specs.Ending.{HasFlags};
-ghost use Rattle.cm_desk.specs.CycleResources.{place_among, IsAtHome, IsAtStart, IsHome, IsListing, IsMadeReady, IsRewired, IsPrepared, CanBePrepared, CanBePreparedAtHome, CanSendOut, HasSentOut, HasForgotten, HasTakenBack};
+ghost use Rattle.cm_desk.specs.CycleResources.{place_among, IsAtHome, IsAtStart, IsHome, IsListing, IsMadeReady};
+ghost use Rattle.cm_desk.specs.CycleResources.{IsRewired, IsPrepared, CanBePrepared, CanBePreparedAtHome};
+ghost use Rattle.cm_desk.specs.CycleResources.{CanSendOut, HasSentOut, HasForgotten, HasTakenBack};
 ghost use Rattle.cm_desk.specs.CycleNeeds.{AreNeeds};
 ghost use Rattle.rt_flight.specs.Flights.{TellsNothing};
 ghost use Rattle.cm_desk.specs.Works.{CanSwitch, HasSwitched, KeepsRest};
@@ -49,7 +52,8 @@ pub(crate) struct CycleResources {
     pub(crate) buffers: CycleBuffers,
     /// The lists that are told while a cycle is aloft.
     pub(crate) lists: Lists,
-    /// Whether they are those of the hardware as it is: a flight writes them down, and what is done to the hardware here makes them stale.
+    /// Whether they are those of the hardware as it is: a flight writes them down, and what is done to the hardware
+    /// here makes them stale.
     pub(crate) told: bool,
     /// Room for the lists that the next flight writes down, as it has it at home. It takes no byte either.
     pub(crate) next_lists: Snapshot<Lists>,
@@ -246,8 +250,8 @@ impl CycleResources {
         self.put_back(idle_context);
     }
 
-    /// All that a cycle needs is made ready in which these controllers are active, of so many that are loaded. What is at home stays so; of
-    /// what others left over some may be lost where memory runs out.
+    /// All that a cycle needs is made ready in which these controllers are active, of so many that are loaded. What is
+    /// at home stays so; of what others left over some may be lost where memory runs out.
     pub(crate) fn prepare(
         &mut self,
         alloc: Global,
@@ -282,7 +286,8 @@ impl CycleResources {
         self.idle_context = Some(context);
     }
 
-    /// What works in a cycle is here again, after something was done to its hardware. The lists are told anew before the next flight.
+    /// What works in a cycle is here again, after something was done to its hardware. The lists are told anew before
+    /// the next flight.
     fn rest(&mut self, context: Box<CycleContext>)
         ensures resources { self.new ≡ record self.old {
           idle_context = Some context;
@@ -308,7 +313,8 @@ impl CycleResources {
         context
     }
 
-    /// What worked in a cycle is at home again, with the lists that it wrote down, and no mail is aloft. It takes no memory.
+    /// What worked in a cycle is at home again, with the lists that it wrote down, and no mail is aloft. It takes no
+    /// memory.
     pub(crate) fn take_back(&mut self, context: Box<CycleContext>)
         requires { IfSome context.value.room TellsNothing }
         ensures { HasTakenBack self.old self.new context.value }

@@ -1,6 +1,7 @@
 //! What the desk keeps, and loads.
 
-ghost use Rattle.std.specs.Prelude.{◌≡◌, ◌<◌, true, false, map, length, slice_get, Some, IfOk, OnOk, IfSome, OnErr, MatchOption};
+ghost use Rattle.std.specs.Prelude.{◌≡◌, ◌<◌, true, false, map, length, slice_get};
+ghost use Rattle.std.specs.Prelude.{Some, IfOk, OnOk, IfSome, OnErr, MatchOption};
 ghost use Rattle.cm_document.specs.Valid.{IsValid};
 ghost use Rattle.cm_model.specs.Console.{place_of, slot_at, slot_of};
 ghost use Rattle.cm_model.specs.Machine.{is_loaded_at, is_sold_out_at, with_loaded, load_effect};
@@ -23,8 +24,8 @@ use sequence::Shared;
 use std::alloc::Global;
 use std::marker::Model;
 
-/// The loaded controllers with their boxes, the blanks that are left, the requests, and what a cycle works on, here or aloft. Contracts
-/// see the written state.
+/// The loaded controllers with their boxes, the blanks that are left, the requests, and what a cycle works on, here or
+/// aloft. Contracts see the written state.
 #[derive(Drop)]
 pub struct Works<C: Controller> {
     pub(crate) checked: Checked,
@@ -137,7 +138,8 @@ impl<C: Controller> Works<C> {
         }
     }
 
-    /// The controller that is described at this place takes a blank of its kind and the next serial; None where no blank is left.
+    /// The controller that is described at this place takes a blank of its kind and the next serial; None where no
+    /// blank is left.
     #[tactic(auto, using(crate::proofs::WorksLemmas::sold_out))]
     fn load_at(&mut self, place: usize) -> Result<Option<u32>, Memory>
         requires described { place < length self.old.description.controllers }

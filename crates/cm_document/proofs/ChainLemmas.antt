@@ -15,7 +15,8 @@ abbrev pub HasChain : List CtlDesc → CtlDesc → CtlDesc → Type 0
 HasChain cs c d = (es : List CtlDesc) × All (Contains cs) es × IsChain c es d
 
 -- one controller more before a chain
-chain_more : (cs : List CtlDesc) (c e d : CtlDesc) → precedes c e ≡ true → Contains cs e → HasChain cs e d → HasChain cs c d
+chain_more : (cs : List CtlDesc) (c e d : CtlDesc) → precedes c e ≡ true → Contains cs e → HasChain cs e d
+    → HasChain cs c d
 chain_more cs c e d leads known chain = (e ∷ chain.0, All-cons (Contains cs) e chain.0 known chain.1, (leads, chain.2))
 
 -- at most n links are a chain
@@ -40,7 +41,8 @@ module _ (cs : List CtlDesc) (other d : CtlDesc) where
   Route = IsRoute (length cs) (λ p q. precedes (at p) (at q)) (λ p. precedes (at p) d)
 
   -- a chain goes over places
-  chain_route : (c : CtlDesc) (place : ℕ) (es : List CtlDesc) → at place ≡ c → All (Contains cs) es → IsChain c es d → (via : List ℕ) × Route place via
+  chain_route : (c : CtlDesc) (place : ℕ) (es : List CtlDesc) → at place ≡ c → All (Contains cs) es → IsChain c es d
+      → (via : List ℕ) × Route place via
   chain_route c place [] here known chain = ([], rw here chain)
   chain_route c place (e ∷ es) here known chain =
       let next = All-head (Contains cs) e es known in
@@ -49,12 +51,15 @@ module _ (cs : List CtlDesc) (other d : CtlDesc) where
       (next.0 ∷ rest.0, (next.1, rw (here, there) chain.0, rest.1))
 
   -- a route is found within any number of links above its number of places
-  route_within : (n place : ℕ) (via : List ℕ) → Route place via → length via < n → precedes_within cs n (at place) d ≡ true
+  route_within : (n place : ℕ) (via : List ℕ) → Route place via → length via < n
+      → precedes_within cs n (at place) d ≡ true
   route_within zero place via route short = absurd (omega arith)
   route_within (suc n) place [] route short = or_left _ _ route
   route_within (suc n) place (next ∷ more) route short =
       let rest = route_within n next more route.2 (omega arith) in
-      or_right _ _ (list_any_at (λ e. precedes (at place) e && precedes_within cs n e d) cs next other route.0 (and_from _ _ route.1 rest))
+      or_right _ _
+      (list_any_at (λ e. precedes (at place) e && precedes_within cs n e d) cs next other route.0
+      (and_from _ _ route.1 rest))
 
 -- a chain from one of these is found within as many links as there are controllers
 pub HasChain-far : (cs : List CtlDesc) (c d : CtlDesc) → Contains cs c → HasChain cs c d → precedes_far cs c d ≡ true
@@ -64,5 +69,6 @@ HasChain-far cs c d known chain =
     rw known.2 at (route_within cs c d (length cs) known.0 short.0 short.1 short.2)
 
 -- both ways
-pub far_iff_HasChain : (cs : List CtlDesc) (c d : CtlDesc) → Contains cs c → (precedes_far cs c d ≡ true) ↔ HasChain cs c d
+pub far_iff_HasChain : (cs : List CtlDesc) (c d : CtlDesc) → Contains cs c
+    → (precedes_far cs c d ≡ true) ↔ HasChain cs c d
 far_iff_HasChain cs c d known = (within-HasChain cs (length cs) c d, HasChain-far cs c d known)

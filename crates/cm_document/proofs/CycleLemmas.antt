@@ -10,7 +10,8 @@ use Rattle.std.proofs.lemmas.List.Sorted.{searched, list_any-IsPermutation}
 use Rattle.cm_document.specs.Cycles.{is_listed, ListsSame}
 
 -- a cycle is found exactly where it is listed
-pub found_where_listed : (xs : List ℕ) (x : ℕ) (r : Result ℕ ℕ) → IsNonDecreasing xs → IsBinarySearchResult (λ y. nat_cmp y x) xs r → is_ok r ≡ is_listed xs x
+pub found_where_listed : (xs : List ℕ) (x : ℕ) (r : Result ℕ ℕ) → IsNonDecreasing xs
+    → IsBinarySearchResult (λ y. nat_cmp y x) xs r → is_ok r ≡ is_listed xs x
 found_where_listed xs x (Ok i) up found =
     let s = searched xs x (Ok i) found (λ i j most below. up i j 0 most below) in
     sym (list_any_at (λ m. m == x) xs i 0 s.0 (eq-eqb (get_or xs i 0) x s.1))

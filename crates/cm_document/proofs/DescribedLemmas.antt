@@ -6,10 +6,13 @@ use Rattle.iface_names.specs.declared.interface.IfaceName.{IfaceName}
 use Rattle.cm_document.specs.Vocabulary.{controller_kinds}
 use Rattle.cm_document.specs.Forms.{fault_in, word_in}
 use Rattle.cm_document.specs.Tables.{walk}
-use Rattle.cm_document.specs.Described.{joint_table, component_table, controller_table, controller_form, group_table, top_table, described_states, is_second, description_form, description_in, all_faults, fits_description}
+use Rattle.cm_document.specs.Described.{joint_table, component_table, controller_table, controller_form}
+use Rattle.cm_document.specs.Described.{group_table, top_table, described_states, is_second}
+use Rattle.cm_document.specs.Described.{description_form, description_in, all_faults, fits_description}
 use Rattle.cm_document.specs.declared.description.CtlKind.{CtlKind}
 use Rattle.cm_document.specs.declared.description.CtlKind.TheVariants.{Forward}
-use Rattle.cm_document.proofs.FormLemmas.{Tells, Tells-first, Tells-fits, IsSound, IsSoundTable, sound_parts, walk-IsSound, chosen-Tells}
+use Rattle.cm_document.proofs.FormLemmas.{Tells, Tells-first, Tells-fits, IsSound, IsSoundTable}
+use Rattle.cm_document.proofs.FormLemmas.{sound_parts, walk-IsSound, chosen-Tells}
 
 joint-IsSound : IsSoundTable joint_table
 unfolding joint_table
@@ -27,8 +30,10 @@ controller_table-IsSound states _ = search sound_parts depth 20
 -- a controller: its type says which table
 controller-IsSound : (states : List IfaceName) → IsSound (controller_form states)
 controller-IsSound states = record {
-  tells = λ prefix ms. chosen-Tells (word_in controller_kinds) (prefix ++ codes "type") (codes "type") (get_member (codes "type") ms)
-      (λ kind. walk (controller_table states kind)) (λ kind. walk-IsSound (controller_table-IsSound states kind)) prefix ms;
+  tells = λ prefix ms. chosen-Tells (word_in controller_kinds) (prefix ++ codes "type") (codes "type")
+      (get_member (codes "type") ms)
+      (λ kind. walk (controller_table states kind)) (λ kind. walk-IsSound (controller_table-IsSound states kind)) prefix
+      ms;
 }
 
 group-IsSound : IsSoundTable group_table
@@ -47,7 +52,8 @@ description-Tells ms = (walk-IsSound (top-IsSound (described_states ms) (is_seco
 
 -- the fault that is told of a tree is the first of all its faults
 pub description-first : (ms : Members) → fault_in (description_in (Some ms)) ≡ take 1 (all_faults ms)
-description-first ms = Tells-first (description_in (Some ms)) (all_faults ms) (fits_description ms) (description-Tells ms)
+description-first ms =
+    Tells-first (description_in (Some ms)) (all_faults ms) (fits_description ms) (description-Tells ms)
 
 -- a tree is accepted exactly where it has the form of a description
 pub description-fits : (ms : Members) → is_ok (description_in (Some ms)) ≡ fits_description ms

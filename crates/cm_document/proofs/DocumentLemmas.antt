@@ -36,22 +36,28 @@ pub record AcceptedParts (grammar : Grammar) (parts : Parts) (d : Document) : Ty
 
 -- from a reading that came to a document, its parts
 joined : (description : Result Description DescProblem) (script : Result Script ScriptFault) (d : Document)
-    → (fault_as fault.Description description >>= λ x. fault_as fault.Script script >>= λ y. Ok (record { description = x; script = y })) ≡ Ok d
+    → (fault_as fault.Description description >>= λ x. fault_as fault.Script script >>= λ y. Ok
+    (record { description = x; script = y })) ≡ Ok d
     → (description ≡ Ok d.description) × (script ≡ Ok d.script)
 joined (Err p) script d e = cc
 joined (Ok x) (Err f) d e = cc
 joined (Ok x) (Ok y) d e = (cc, cc)
 
-document_of-AcceptedParts : (grammar : Grammar) (parts : Parts) (d : Document) → document_of grammar parts ≡ Ok d → AcceptedParts grammar parts d
+document_of-AcceptedParts : (grammar : Grammar) (parts : Parts) (d : Document) → document_of grammar parts ≡ Ok d
+    → AcceptedParts grammar parts d
 unfolding document_of
 document_of-AcceptedParts grammar parts d e =
     let both = joined (accepted_description parts.description) (accepted_script grammar parts.lines parts.script) d e in
     record { description = both.0; script = both.1 }
 
 -- the parts of an accepted document are accepted
-pub document-AcceptedParts : (grammar : Grammar) (bytes : List ℕ) (d : Document) → document grammar bytes ≡ Ok d → AcceptedParts grammar (parts_of bytes) d
+pub document-AcceptedParts : (grammar : Grammar) (bytes : List ℕ) (d : Document) → document grammar bytes ≡ Ok d
+    → AcceptedParts grammar (parts_of bytes) d
 document-AcceptedParts grammar bytes d e = document_of-AcceptedParts grammar (parts_of bytes) d e
 
 -- the description of an accepted document is valid
-pub document-IsValid : (grammar : Grammar) (bytes : List ℕ) (d : Document) → document grammar bytes ≡ Ok d → IsValid d.description
-document-IsValid grammar bytes d e = accepted_description-IsValid (parts_of bytes).description d.description (document-AcceptedParts grammar bytes d e).description
+pub document-IsValid : (grammar : Grammar) (bytes : List ℕ) (d : Document) → document grammar bytes ≡ Ok d
+    → IsValid d.description
+document-IsValid grammar bytes d e =
+    accepted_description-IsValid (parts_of bytes).description d.description
+    (document-AcceptedParts grammar bytes d e).description

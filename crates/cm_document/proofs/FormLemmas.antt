@@ -1,24 +1,32 @@
 -- Each form is sound: it reads a value exactly where nothing is wrong with it, and else tells the first of all faults.
-use Rattle.std.proofs.Common.{◌≡◌, ℕ, ◌+◌, List, [], ◌∷◌, ◌++◌, length, map, take, Option, Some, None, Result, Ok, Err, Bool, true, false, ◌&&◌, ◌==◌, refl, ◌⊎◌, inl, inr, is_ok, arith}
+use Rattle.std.proofs.Common.{◌≡◌, ℕ, ◌+◌, List, [], ◌∷◌, ◌++◌, length, map, take, Option, Some, None, Result}
+use Rattle.std.proofs.Common.{Ok, Err, Bool, true, false, ◌&&◌, ◌==◌, refl, ◌⊎◌, inl, inr, is_ok, arith}
 use Rattle.std.specs.Prelude.{cond, codes}
 use Rattle.std.proofs.lemmas.Bool.Decides.{nat_tests}
 use Rattle.toml.specs.Data.{Data, string, array, table, Items, no_items, item, Members, get_member, same_key}
 use Rattle.iface_names.specs.declared.interface.IfaceName.{IfaceName}
 use Rattle.cm_document.specs.Reading.{◌>>=◌}
-use Rattle.cm_document.specs.Forms.{Form, placed, item_path, inside, fault_in, one, items_from, item_faults, items_fit, list_read, list_faults, list_fits, list_after, list_of, tables_from, tables_faults, tables_fit, array_read, array_faults, array_fits, tables_of, all_or_read, all_or_faults, all_or_fits, all_or_list, state_in}
-use Rattle.cm_document.specs.Tables.{Table, filled, required_read, required_faults, required_fits, required, defaulted_read, defaulted_faults, defaulted_fits, defaulted, ◌&◌, unlisted, none_unlisted, walk}
+use Rattle.cm_document.specs.Forms.{Form, placed, item_path, inside, fault_in, one, items_from, item_faults}
+use Rattle.cm_document.specs.Forms.{items_fit, list_read, list_faults, list_fits, list_after, list_of, tables_from}
+use Rattle.cm_document.specs.Forms.{tables_faults, tables_fit, array_read, array_faults, array_fits, tables_of}
+use Rattle.cm_document.specs.Forms.{all_or_read, all_or_faults, all_or_fits, all_or_list, state_in}
+use Rattle.cm_document.specs.Tables.{Table, filled, required_read, required_faults, required_fits}
+use Rattle.cm_document.specs.Tables.{required, defaulted_read, defaulted_faults, defaulted_fits}
+use Rattle.cm_document.specs.Tables.{defaulted, ◌&◌, unlisted, none_unlisted, walk}
 use Rattle.cm_document.specs.declared.faults.Wrong.{Wrong}
 use Rattle.cm_document.specs.declared.faults.DescFault.TheVariants.{BadKey, BadValue}
 
 -- ---- A reading beside all faults
 
--- A reading tells of these faults and of this test: a value has no fault and passes, and a fault is the first and does not pass.
+-- A reading tells of these faults and of this test: a value has no fault and passes, and a fault is the first and does
+-- not pass.
 abbrev pub Tells : {A E : Type 0} → Result A E → List E → Bool → Type 0
 Tells (Ok x) faults fits = (faults ≡ []) × (fits ≡ true)
 Tells {E = E} (Err e) faults fits = (others : List E) × (faults ≡ e ∷ others) × (fits ≡ false)
 
 -- the fault of such a reading is the first of all
-pub Tells-first : {A E : Type 0} (r : Result A E) (faults : List E) (fits : Bool) → Tells r faults fits → fault_in r ≡ take 1 faults
+pub Tells-first : {A E : Type 0} (r : Result A E) (faults : List E) (fits : Bool) → Tells r faults fits
+    → fault_in r ≡ take 1 faults
 Tells-first (Ok x) faults fits told = rw told.0 refl
 Tells-first (Err e) faults fits told = rw told.1 refl
 
@@ -34,12 +42,14 @@ then-Tells (Ok x) faults more fits further k told next = rw (told.0, told.1) (ne
 then-Tells (Err e) faults more fits further k told next = (told.0 ++ more, rw told.1 refl, rw told.2 refl)
 
 -- the value made into another has the same faults
-made-Tells : {A B E : Type 0} (r : Result A E) (faults : List E) (fits : Bool) (f : A → B) → Tells r faults fits → Tells (r >>= λ x. Ok (f x)) faults fits
+made-Tells : {A B E : Type 0} (r : Result A E) (faults : List E) (fits : Bool) (f : A → B) → Tells r faults fits
+    → Tells (r >>= λ x. Ok (f x)) faults fits
 made-Tells (Ok x) faults fits f told = told
 made-Tells (Err e) faults fits f told = told
 
 -- a reading at its path tells of its own fault
-placed-Tells : {A : Type 0} (path : List ℕ) (r : Result A Wrong) → Tells (placed path r) (fault_in (placed path r)) (is_ok r)
+placed-Tells : {A : Type 0} (path : List ℕ) (r : Result A Wrong)
+    → Tells (placed path r) (fault_in (placed path r)) (is_ok r)
 placed-Tells path (Ok x) = (refl, refl)
 placed-Tells path (Err w) = ([], refl, refl)
 
@@ -79,11 +89,13 @@ list_after-IsSound rule = record { tells = list-Tells rule }
 pub list_of-IsSound : {A : Type 0} (rule : Data → Result A Wrong) → IsSound (list_of rule)
 list_of-IsSound rule = list_after-IsSound (λ found. rule)
 
-tables-Tells : {A : Type 0} (form : Form Members A) → IsSound form → (path : List ℕ) (k : ℕ) (ds : Items) (found : List A)
+tables-Tells : {A : Type 0} (form : Form Members A) → IsSound form
+    → (path : List ℕ) (k : ℕ) (ds : Items) (found : List A)
     → Tells (tables_from form path k ds found) (tables_faults form path k ds) (tables_fit form ds)
 tables-Tells form sound path k no_items found = (refl, refl)
 tables-Tells form sound path k (item (table ms) ds) found =
-    then-Tells (form.read (inside (item_path path k)) ms) _ _ _ _ (λ x. tables_from form path (k + 1) ds (found ++ x ∷ []))
+    then-Tells (form.read (inside (item_path path k)) ms) _ _ _ _
+    (λ x. tables_from form path (k + 1) ds (found ++ x ∷ []))
     (sound.tells (inside (item_path path k)) ms) (λ x. tables-Tells form sound path (k + 1) ds (found ++ x ∷ []))
 tables-Tells form sound path k (item _ ds) found = (tables_faults form path (k + 1) ds, refl, refl)
 
@@ -114,7 +126,8 @@ all_or_list-IsSound states = record { tells = all_or-Tells states }
 
 -- a table whose form is sound
 pub record IsSoundTable {A : Type 0} (t : Table A) : Type 0 where
-  pub tells : (prefix : List ℕ) (ms : Members) → Tells (t.form.read prefix ms) (t.form.faults prefix ms) (t.form.fits ms)
+  pub tells : (prefix : List ℕ) (ms : Members)
+      → Tells (t.form.read prefix ms) (t.form.faults prefix ms) (t.form.fits ms)
 
 -- a table that has no keys yet
 pub filled-IsSound : {A : Type 0} (x : A) → IsSoundTable (filled x)
@@ -126,8 +139,10 @@ required-Tells form sound path None = ([], refl, refl)
 required-Tells form sound path (Some d) = sound.tells path d
 
 -- a required key
-pub required-IsSound : {A : Type 0} (key : List ℕ) {form : Form Data A} → IsSound form → IsSoundTable (required key form)
-required-IsSound key {form = form} sound = record { tells = λ prefix ms. required-Tells form sound (prefix ++ key) (get_member key ms) }
+pub required-IsSound : {A : Type 0} (key : List ℕ) {form : Form Data A} → IsSound form
+    → IsSoundTable (required key form)
+required-IsSound key {form = form} sound =
+    record { tells = λ prefix ms. required-Tells form sound (prefix ++ key) (get_member key ms) }
 
 defaulted-Tells : {A : Type 0} (form : Form Data A) (default : A) → IsSound form → (path : List ℕ) (o : Option Data)
     → Tells (defaulted_read form default path o) (defaulted_faults form path o) (defaulted_fits form o)
@@ -135,14 +150,17 @@ defaulted-Tells form default sound path None = (refl, refl)
 defaulted-Tells form default sound path (Some d) = sound.tells path d
 
 -- a key that may be missing
-pub defaulted-IsSound : {A : Type 0} (key : List ℕ) {form : Form Data A} → IsSound form → (default : A) → IsSoundTable (defaulted key form default)
+pub defaulted-IsSound : {A : Type 0} (key : List ℕ) {form : Form Data A} → IsSound form → (default : A)
+    → IsSoundTable (defaulted key form default)
 defaulted-IsSound key {form = form} sound default =
     record { tells = λ prefix ms. defaulted-Tells form default sound (prefix ++ key) (get_member key ms) }
 
 -- the next key of a table
-pub next-IsSound : {A B : Type 0} {before : Table (A → B)} {next : Table A} → IsSoundTable before → IsSoundTable next → IsSoundTable (before & next)
+pub next-IsSound : {A B : Type 0} {before : Table (A → B)} {next : Table A} → IsSoundTable before → IsSoundTable next
+    → IsSoundTable (before & next)
 next-IsSound {before = before} {next = next} first second = record {
-  tells = λ prefix ms. then-Tells (before.form.read prefix ms) _ _ _ _ (λ make. next.form.read prefix ms >>= λ x. Ok (make x))
+  tells = λ prefix ms. then-Tells (before.form.read prefix ms) _ _ _ _
+      (λ make. next.form.read prefix ms >>= λ x. Ok (make x))
       (first.tells prefix ms) (λ make. made-Tells (next.form.read prefix ms) _ _ make (second.tells prefix ms));
 }
 
@@ -159,10 +177,22 @@ walk-IsSound {t = t} sound = record {
 }
 
 -- what tables are made of
-pub ruleset sound_parts = (one-IsSound, list_after-IsSound, list_of-IsSound, tables_of-IsSound, all_or_list-IsSound, filled-IsSound, required-IsSound, defaulted-IsSound, next-IsSound, walk-IsSound)
+pub ruleset sound_parts = (
+  one-IsSound,
+  list_after-IsSound,
+  list_of-IsSound,
+  tables_of-IsSound,
+  all_or_list-IsSound,
+  filled-IsSound,
+  required-IsSound,
+  defaulted-IsSound,
+  next-IsSound,
+  walk-IsSound,
+)
 
 -- A form that is chosen by a key's value is sound where each choice is: the fault of that key is then the only one.
-pub chosen-Tells : {K A : Type 0} (rule : Data → Result K Wrong) (path short : List ℕ) (o : Option Data) (form : K → Form Members A)
+pub chosen-Tells : {K A : Type 0} (rule : Data → Result K Wrong) (path short : List ℕ) (o : Option Data)
+    (form : K → Form Members A)
     → ((kind : K) → IsSound (form kind)) → (prefix : List ℕ) (ms : Members)
     → Tells (required_read (one rule) path o >>= λ kind. (form kind).read prefix ms)
     (elim (required_read (one rule) path o) [ Ok kind ↦ (form kind).faults prefix ms | Err e ↦ e ∷ [] ])

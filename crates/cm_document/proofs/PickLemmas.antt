@@ -46,9 +46,11 @@ each_stays : (d : Description) (picks : List Pick) → AllByRecursion (Stays d) 
 each_stays d [] = tt
 each_stays d (One name ∷ picks) = (tt, each_stays d picks)
 each_stays d (Group name ∷ picks) =
-    all_append (Stays d) (flat_pick d (Group name)) (flat d picks) (found_stays d name (group_of d name) refl) (each_stays d picks)
+    all_append (Stays d) (flat_pick d (Group name)) (flat d picks) (found_stays d name (group_of d name) refl)
+    (each_stays d picks)
 
 -- what stays as a group in a flat list is not described
-pub flat-not_described : (d : Description) (picks : List Pick) (name : List ℕ) → Contains (flat d picks) (Group name) → group_of d name ≡ None
+pub flat-not_described : (d : Description) (picks : List Pick) (name : List ℕ) → Contains (flat d picks) (Group name)
+    → group_of d name ≡ None
 flat-not_described d picks name (i, below, is) =
     subst (Stays d) is (All-from_recursion (Stays d) (flat d picks) (each_stays d picks) i (Group name) below)

@@ -15,10 +15,12 @@ use Rattle.cm_document.specs.declared.life.Life.TheVariants.{Unconfigured, Activ
 abbrev joint_with : List ℕ → List Kind → List Kind → JointDesc
 joint_with name commands states = a_joint name (pos 1000000) (pos 1000000) (pos 0) (pos 0) (pos 0) commands states
 
--- The states of both joints come first, in the order of their lists; then the commands of both; then the reference of the passthrough.
+-- The states of both joints come first, in the order of their lists; then the commands of both; then the reference of
+-- the passthrough.
 in_order : interfaces_of (a_description 1 100 2
     (a_component (codes "arm") System Active Unconfigured [] [] (
-    joint_with (codes "j1") (Effort ∷ []) (Velocity ∷ Position ∷ []) ∷ joint_with (codes "j2") (Position ∷ []) (Position ∷ []) ∷ []) ∷ [])
+    joint_with (codes "j1") (Effort ∷ []) (Velocity ∷ Position ∷ [])
+    ∷ joint_with (codes "j2") (Position ∷ []) (Position ∷ []) ∷ []) ∷ [])
     (a_controller (codes "p") 0 (Joint (codes "j1") Effort ∷ []) [] (Passthrough 1)
     ∷ a_controller (codes "f") 0 (Reference (codes "p") (codes "j1") Effort ∷ []) [] (Forward 1) ∷ []))
     ≡ record { called = a_state (Joint (codes "j1") Velocity); whose = of_joint 0 0 }

@@ -8,10 +8,12 @@ use Rattle.std.proofs.lemmas.Map.Steps.{length-le_from_distinct_below}
 -- a number that is not among others differs from each
 apart_from_each : (x : ℕ) (xs : List ℕ) → list_any (eqb x) xs ≡ false → AllByRecursion (λ y. eqb x y ≡ false) xs
 apart_from_each x [] missing = tt
-apart_from_each x (y ∷ ys) missing = let parts = or_parts (eqb x y) (list_any (eqb x) ys) missing in (parts.0, apart_from_each x ys parts.1)
+apart_from_each x (y ∷ ys) missing =
+    let parts = or_parts (eqb x y) (list_any (eqb x) ys) missing in (parts.0, apart_from_each x ys parts.1)
 
 module _ (count : ℕ) (edge : ℕ → ℕ → Bool) (last : ℕ → Bool) where
-  -- From the first place an edge leads to each next of these, all below the count, and of the last of them the end is true.
+  -- From the first place an edge leads to each next of these, all below the count, and of the last of them the end is
+  -- true.
   abbrev pub IsRoute : ℕ → List ℕ → Type 0
   IsRoute place [] = last place ≡ true
   IsRoute place (next ∷ more) = (next < count) × (edge place next ≡ true) × IsRoute next more
@@ -23,7 +25,8 @@ module _ (count : ℕ) (edge : ℕ → ℕ → Bool) (last : ℕ → Bool) where
     pub distinct : IsDistinct eqb (place ∷ via)
 
   -- what is left of a straight route after a place on it
-  rest_after : (place next : ℕ) (via : List ℕ) → IsRoute next via → IsDistinct eqb (next ∷ via) → list_any (eqb place) (next ∷ via) ≡ true → Straight place
+  rest_after : (place next : ℕ) (via : List ℕ) → IsRoute next via → IsDistinct eqb (next ∷ via)
+      → list_any (eqb place) (next ∷ via) ≡ true → Straight place
   rest_after place next [] route distinct on =
       elim (or_cases (eqb place next) false on) [
         | inl here ↦ rw (eqb-true place next here) (record { via = []; route = route; distinct = distinct })
@@ -43,7 +46,8 @@ module _ (count : ℕ) (edge : ℕ → ℕ → Bool) (last : ℕ → Bool) where
         | inr off ↦ record {
           via = next ∷ rest.via;
           route = (below, leads, rest.route);
-          distinct = IsDistinct-cons eqb place (next ∷ rest.via) (apart_from_each place (next ∷ rest.via) off) rest.distinct;
+          distinct = IsDistinct-cons eqb place (next ∷ rest.via) (apart_from_each place (next ∷ rest.via) off)
+              rest.distinct;
         }
       ]
 
@@ -54,7 +58,8 @@ module _ (count : ℕ) (edge : ℕ → ℕ → Bool) (last : ℕ → Bool) where
   straight place (next ∷ more) route = one_more place next route.0 route.1 (straight next more route.2)
 
   -- the places of a route that begins below the count are below it
-  places_below : (place : ℕ) (via : List ℕ) → place < count → IsRoute place via → (q : ℕ) → list_any (eqb q) (place ∷ via) ≡ true → q < count
+  places_below : (place : ℕ) (via : List ℕ) → place < count → IsRoute place via → (q : ℕ)
+      → list_any (eqb q) (place ∷ via) ≡ true → q < count
   places_below place [] below route q on =
       elim (or_cases (eqb q place) false on) [
         | inl here ↦ omega (arith, eqb-true q place here)
@@ -67,8 +72,10 @@ module _ (count : ℕ) (edge : ℕ → ℕ → Bool) (last : ℕ → Bool) where
       ]
 
   -- where there is a route there is one with fewer places between than the count
-  pub short_route : (place : ℕ) (via : List ℕ) → place < count → IsRoute place via → (via' : List ℕ) × IsRoute place via' × (length via' < count)
+  pub short_route : (place : ℕ) (via : List ℕ) → place < count → IsRoute place via
+      → (via' : List ℕ) × IsRoute place via' × (length via' < count)
   short_route place via below route =
       let s = straight place via route in
-      let most = length-le_from_distinct_below (place ∷ s.via) count s.distinct (places_below place s.via below s.route) in
+      let most = length-le_from_distinct_below (place ∷ s.via) count s.distinct
+      (places_below place s.via below s.route) in
       (s.via, s.route, omega (arith, most))

@@ -3,7 +3,8 @@ use Rattle.std.proofs.Common.{◌≡◌, map, Option, Some, None, Result, Ok, Er
 use Rattle.toml.specs.Data.{Members}
 use Rattle.cm_document.specs.Reading.{◌>>=◌}
 use Rattle.cm_document.specs.Described.{states_of, description_in}
-use Rattle.cm_document.specs.Valid.{valid, few_enough, named_apart, in_range, links_exist, claimable, fallbacks_exist, members_exist, loop_free, IsDescribed, IsValid}
+use Rattle.cm_document.specs.Valid.{valid, few_enough, named_apart, in_range, links_exist, claimable}
+use Rattle.cm_document.specs.Valid.{fallbacks_exist, members_exist, loop_free, IsDescribed, IsValid}
 use Rattle.cm_document.specs.declared.description.CtlDesc.{CtlDesc}
 use Rattle.cm_document.specs.declared.description.Description.{Description}
 use Rattle.cm_document.specs.declared.faults.CheckFault.{CheckFault}

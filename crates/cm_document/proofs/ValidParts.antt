@@ -1,5 +1,7 @@
--- What is known of a valid description, part by part. Each check is a field here, and whoever needs one takes it from here.
-use Rattle.std.proofs.Common.{◌≡◌, ℕ, ◌<◌, ◌≤◌, ◌^◌, Bool, true, false, List, [], length, map, Option, Some, None, Result, Ok, Err, refl, arith, inl, inr}
+-- What is known of a valid description, part by part. Each check is a field here, and whoever needs one takes it from
+-- here.
+use Rattle.std.proofs.Common.{◌≡◌, ℕ, ◌<◌, ◌≤◌, ◌^◌, Bool, true, false, List, [], length, map}
+use Rattle.std.proofs.Common.{Option, Some, None, Result, Ok, Err, refl, arith, inl, inr}
 use Rattle.std.specs.Prelude.{nat_lt, nat_le, ◌==◌, ◌&&◌, if◌then◌else◌, codes, sum_by}
 use Rattle.std.specs.Cmp.{IsEquivalence}
 use Rattle.std.specs.List.{IsDistinct}
@@ -12,15 +14,22 @@ use Rattle.iface_names.specs.declared.interface.IfaceName.{IfaceName}
 use Rattle.cm_document.specs.Described.{states_of}
 use Rattle.cm_document.specs.Limits.{is_version, limits_of}
 use Rattle.cm_document.specs.Links.{joints_of, commands_of, references_of, first_in_loop}
-use Rattle.cm_document.specs.Valid.{fallbacks_exist, members_exist, members_apart, group_ranged, limited, few_enough, repeated_after, apart, names_apart, interfaces_apart, links_apart, named_apart, ranged, each_ranged, component_ranged, controller_ranged, in_range, claimable, links_exist, name_at, loop_free, valid, IsValid}
+use Rattle.cm_document.specs.Valid.{fallbacks_exist, members_exist, members_apart, group_ranged, limited}
+use Rattle.cm_document.specs.Valid.{few_enough, repeated_after, apart, names_apart, interfaces_apart, links_apart}
+use Rattle.cm_document.specs.Valid.{named_apart, ranged, each_ranged, component_ranged, controller_ranged, in_range}
+use Rattle.cm_document.specs.Valid.{claimable, links_exist, name_at, loop_free, valid, IsValid}
 use Rattle.cm_document.specs.declared.description.CtlDesc.{CtlDesc}
 use Rattle.cm_document.specs.declared.description.Description.{Description}
 use Rattle.cm_document.specs.declared.limits.VersionLimits.{VersionLimits}
 use Rattle.cm_document.specs.declared.faults.CheckFault.{CheckFault}
 use Rattle.cm_document.specs.declared.faults.CheckFault.TheVariants.{NameTwice, ChainLoop}
 use Rattle.cm_document.specs.declared.faults.What.{What}
-use Rattle.cm_document.specs.declared.faults.What.TheVariants.{Components, Joints, States, Commands, Controllers, References, Claims, Reads}
-use Rattle.cm_document.specs.declared.limits.TheConstants.{SECOND_VERSION, LIMITS_1, LIMITS_2, MOST_GROUPS, HIGHEST_RATE, MOST_CYCLES, MOST_COMPONENTS, MOST_JOINTS, MOST_STATES, MOST_COMMANDS, MOST_CONTROLLERS, MOST_REFERENCES, MOST_CLAIMS, MOST_READS}
+use Rattle.cm_document.specs.declared.faults.What.TheVariants.{Components, Joints, States, Commands}
+use Rattle.cm_document.specs.declared.faults.What.TheVariants.{Controllers, References, Claims, Reads}
+use Rattle.cm_document.specs.declared.limits.TheConstants.{SECOND_VERSION, LIMITS_1, LIMITS_2, MOST_GROUPS}
+use Rattle.cm_document.specs.declared.limits.TheConstants.{HIGHEST_RATE, MOST_CYCLES, MOST_COMPONENTS, MOST_JOINTS}
+use Rattle.cm_document.specs.declared.limits.TheConstants.{MOST_STATES, MOST_COMMANDS, MOST_CONTROLLERS}
+use Rattle.cm_document.specs.declared.limits.TheConstants.{MOST_REFERENCES, MOST_CLAIMS, MOST_READS}
 use Rattle.cm_document.proofs.DistinctLemmas.{repeated_after-IsDistinct}
 use Rattle.cm_document.proofs.ReadingLemmas.{bind_Ok}
 
@@ -89,7 +98,8 @@ in_range_passes false path e = cc
 
 -- where no fault is told, none was found
 pub none_told : {A : Type 0} (fault : A → CheckFault) (found : Option A)
-    → ◌≡◌ {A = Result (Unit {0}) CheckFault} (elim found [ None ↦ Ok tt | Some x ↦ Err (fault x) ]) (Ok tt) → found ≡ None
+    → ◌≡◌ {A = Result (Unit {0}) CheckFault} (elim found [ None ↦ Ok tt | Some x ↦ Err (fault x) ]) (Ok tt)
+    → found ≡ None
 none_told fault None e = refl
 none_told fault (Some x) e = cc
 
@@ -105,8 +115,10 @@ names_apart-IsDistinct : (names : List (List ℕ)) → names_apart names ≡ Ok 
 names_apart-IsDistinct names e = apart-IsDistinct same_name nat_list_eq_equiv (λ name. name) names e
 
 -- interfaces that were found apart
-pub interfaces_apart-IsDistinct : (names : List IfaceName) → interfaces_apart names ≡ Ok tt → IsDistinct same_interface names
-interfaces_apart-IsDistinct names e = apart-IsDistinct same_interface same_interface-IsEquivalence interface_text names e
+pub interfaces_apart-IsDistinct : (names : List IfaceName) → interfaces_apart names ≡ Ok tt
+    → IsDistinct same_interface names
+interfaces_apart-IsDistinct names e =
+    apart-IsDistinct same_interface same_interface-IsEquivalence interface_text names e
 
 -- ---- Each part
 
@@ -156,9 +168,13 @@ few_parts d e =
     let states = bind_Ok (limited States (length (states_of d.components)) limits.states) _ tt joints.2 in
     let commands = bind_Ok (limited Commands (length (commands_of d.components)) limits.commands) _ tt states.2 in
     let controllers = bind_Ok (limited Controllers (length d.controllers) limits.controllers) _ tt commands.2 in
-    let references = bind_Ok (limited References (length (references_of d.controllers)) limits.references) _ tt controllers.2 in
-    let claims = bind_Ok (limited Claims (sum_by (λ (c : CtlDesc). length c.claims) d.controllers) limits.claims) _ tt references.2 in
-    let reads = bind_Ok (limited Reads (sum_by (λ (c : CtlDesc). length c.reads) d.controllers) limits.reads) _ tt claims.2 in
+    let references =
+    bind_Ok (limited References (length (references_of d.controllers)) limits.references) _ tt controllers.2 in
+    let claims =
+    bind_Ok (limited Claims (sum_by (λ (c : CtlDesc). length c.claims) d.controllers) limits.claims) _ tt
+    references.2 in
+    let reads = bind_Ok (limited Reads (sum_by (λ (c : CtlDesc). length c.reads) d.controllers) limits.reads) _ tt
+    claims.2 in
     record {
       components = omega (arith, within_limit _ _ _ components.1, all.components);
       joints = omega (arith, within_limit _ _ _ joints.1, all.joints);
@@ -192,7 +208,8 @@ name_parts d e =
 range_parts : (d : Description) → in_range d ≡ Ok tt → IsWithinRanges d
 range_parts d e =
     let version = bind_Ok (ranged (is_version d.version) (codes "version")) _ tt e in
-    let rate = bind_Ok (ranged (nat_le 1 d.update_rate && nat_le d.update_rate HIGHEST_RATE) (codes "update_rate")) _ tt version.2 in
+    let rate = bind_Ok (ranged (nat_le 1 d.update_rate && nat_le d.update_rate HIGHEST_RATE) (codes "update_rate")) _ tt
+    version.2 in
     let cycles = bind_Ok (ranged (nat_le d.cycles MOST_CYCLES) (codes "cycles")) _ tt rate.2 in
     let components = bind_Ok (each_ranged component_ranged (codes "component") 0 d.components) _ tt cycles.2 in
     let controllers = bind_Ok (each_ranged controller_ranged (codes "controller") 0 d.controllers) _ tt components.2 in

@@ -1,5 +1,6 @@
 -- What is known of each value that a walk reads.
-use Rattle.std.proofs.Common.{◌≡◌, ℕ, ◌+◌, ◌^◌, ℤ, pos, negsuc, List, [], ◌∷◌, ◌++◌, Option, Some, None, Result, Ok, Err, ◌⊎◌, inl, inr, arith, refl}
+use Rattle.std.proofs.Common.{◌≡◌, ℕ, ◌+◌, ◌^◌, ℤ, pos, negsuc, List, [], ◌∷◌, ◌++◌, Option}
+use Rattle.std.proofs.Common.{Some, None, Result, Ok, Err, ◌⊎◌, inl, inr, arith, refl}
 use Rattle.std.specs.Prelude.{IfOk, codes, nat_lt, int_le, ◌&&◌, neg_ℤ, ◌*ℤ◌}
 use Rattle.std.specs.List.{AllByRecursion}
 use Rattle.std.proofs.lemmas.Bool.{cond_both, ltb-true, and_parts}
@@ -9,7 +10,8 @@ use Rattle.fixed_num.specs.Micro.{IsInRange, units}
 use Rattle.fixed_num.specs.Text.{number_of}
 use Rattle.fixed_num.specs.declared.TheConstants.{MICRO, MOST_UNITS}
 use Rattle.fixed_num.proofs.ReadBackLemmas.{number_of_small}
-use Rattle.iface_names.specs.Interfaces.{interface_of, interface_of_parts, interface_parts, joint_of, reference_of, kind_named}
+use Rattle.iface_names.specs.Interfaces.{interface_of, interface_of_parts, interface_parts}
+use Rattle.iface_names.specs.Interfaces.{joint_of, reference_of, kind_named}
 use Rattle.iface_names.specs.Names.{is_name, same_name}
 use Rattle.iface_names.specs.declared.interface.IfaceName.{IfaceName}
 use Rattle.iface_names.specs.declared.interface.IfaceName.TheVariants.{Joint, Reference}
@@ -17,7 +19,9 @@ use Rattle.iface_names.specs.declared.kind.Kind.{Kind}
 use Rattle.iface_names.specs.declared.name.NameFault.TheVariants.{BadName}
 use Rattle.sequence.proofs.ListLemmas.{all_append}
 use Rattle.cm_document.specs.Vocabulary.{listed, lives_on_error}
-use Rattle.cm_document.specs.Forms.{placed, item_path, one, where_some, or_bad, whole_in, quantity_in, name_in, word_in, interface_in, of_joint, state_in, items_from, list_read, list_of, all_or_read, all_or_list}
+use Rattle.cm_document.specs.Forms.{placed, item_path, one, where_some, or_bad, whole_in}
+use Rattle.cm_document.specs.Forms.{quantity_in, name_in, word_in, interface_in, of_joint, state_in}
+use Rattle.cm_document.specs.Forms.{items_from, list_read, list_of, all_or_read, all_or_list}
 use Rattle.cm_document.specs.declared.faults.DescFault.TheVariants.{BadValue}
 use Rattle.cm_document.specs.declared.faults.Wrong.{Wrong}
 use Rattle.cm_document.specs.declared.faults.Wrong.TheVariants as wrong
@@ -42,19 +46,23 @@ placed_keeps path (Err w) P holds = tt
 one_gives : {A : Type 0} (rule : Data → Result A Wrong) (P : A → Type 0) → Keeps rule P → Gives (one rule).read P
 one_gives rule P keeps = record { given = λ path d. placed_keeps path (rule d) P (keeps.kept d) }
 
-items_keep : {A : Type 0} (rule : Data → Result A Wrong) (P : A → Type 0) → Keeps rule P → (path : List ℕ) (k : ℕ) (ds : Items) (found : List A)
+items_keep : {A : Type 0} (rule : Data → Result A Wrong) (P : A → Type 0) → Keeps rule P
+    → (path : List ℕ) (k : ℕ) (ds : Items) (found : List A)
     → AllByRecursion P found → IfOk (items_from (λ before. rule) path k ds found) (AllByRecursion P)
 items_keep rule P keeps path k no_items found all = all
 items_keep rule P keeps path k (item d ds) found all =
-    bind_keeps P (AllByRecursion P) (placed (item_path path k) (rule d)) _ (placed_keeps (item_path path k) (rule d) P (keeps.kept d))
+    bind_keeps P (AllByRecursion P) (placed (item_path path k) (rule d)) _
+    (placed_keeps (item_path path k) (rule d) P (keeps.kept d))
     (λ x holds. items_keep rule P keeps path (k + 1) ds (found ++ x ∷ []) (all_append P found (x ∷ []) all (holds, tt)))
 
-list_keeps : {A : Type 0} (rule : Data → Result A Wrong) (P : A → Type 0) → Keeps rule P → (path : List ℕ) (d : Data) → IfOk (list_read (λ before. rule) path d) (AllByRecursion P)
+list_keeps : {A : Type 0} (rule : Data → Result A Wrong) (P : A → Type 0) → Keeps rule P → (path : List ℕ) (d : Data)
+    → IfOk (list_read (λ before. rule) path d) (AllByRecursion P)
 list_keeps rule P keeps path (array ds) = items_keep rule P keeps path 0 ds [] tt
 list_keeps rule P keeps path _ = tt
 
 -- a list
-list_gives : {A : Type 0} (rule : Data → Result A Wrong) (P : A → Type 0) → Keeps rule P → Gives (list_of rule).read (AllByRecursion P)
+list_gives : {A : Type 0} (rule : Data → Result A Wrong) (P : A → Type 0) → Keeps rule P
+    → Gives (list_of rule).read (AllByRecursion P)
 list_gives rule P keeps = record { given = list_keeps rule P keeps }
 
 -- ---- Names and wholes
@@ -75,7 +83,9 @@ pub names_give : Gives (list_of name_in).read (AllByRecursion IsName)
 names_give = list_gives name_in IsName keeps_names
 
 whole_kept : (d : Data) → IfOk (whole_in d) IsWhole
-whole_kept (integer (pos n)) = cond_both (nat_lt n (2 ^ 32)) (Ok n) (Err wrong.Value) (λ r. IfOk r IsWhole) (λ below. ltb-true n (2 ^ 32) below) (λ _. tt)
+whole_kept (integer (pos n)) =
+    cond_both (nat_lt n (2 ^ 32)) (Ok n) (Err wrong.Value) (λ r. IfOk r IsWhole) (λ below. ltb-true n (2 ^ 32) below)
+    (λ _. tt)
 whole_kept (integer (negsuc n)) = tt
 whole_kept _ = tt
 
@@ -95,7 +105,8 @@ wholes_give = list_gives whole_in IsWhole keeps_wholes
 -- whole units are in the range
 units_kept : (z : ℤ) → IfOk (where_some (units z)) IsInRange
 units_kept z =
-    cond_both (int_le (neg_ℤ (pos MOST_UNITS)) z && int_le z (pos MOST_UNITS)) (Some (z *ℤ pos MICRO)) None (λ o. IfOk (where_some o) IsInRange)
+    cond_both (int_le (neg_ℤ (pos MOST_UNITS)) z && int_le z (pos MOST_UNITS)) (Some (z *ℤ pos MICRO)) None
+    (λ o. IfOk (where_some o) IsInRange)
     (λ within. let both = and_parts (int_le (neg_ℤ (pos MOST_UNITS)) z) (int_le z (pos MOST_UNITS)) within in
     (omega (arith, ints, both.0, both.1), omega (arith, ints, both.0, both.1)))
     (λ _. tt)
@@ -108,7 +119,8 @@ number_kept (Err e) within = tt
 quantity_kept : (d : Data) → IfOk (quantity_in d) IsInRange
 quantity_kept (integer z) = units_kept z
 quantity_kept (string text) =
-    number_kept (number_of text) (λ n read. let small = number_of_small text n read in (omega (arith, ints, small), omega (arith, ints, small)))
+    number_kept (number_of text)
+    (λ n read. let small = number_of_small text n read in (omega (arith, ints, small), omega (arith, ints, small)))
 quantity_kept _ = tt
 
 -- a quantity is in the range
@@ -119,12 +131,14 @@ quantity_gives = one_gives quantity_in IsInRange (record { kept = quantity_kept 
 
 joint_kept : (joint : List ℕ) (kind : Option Kind) → IfOk (joint_of joint kind) IsNamed
 joint_kept joint None = tt
-joint_kept joint (Some kind) = cond_both (is_name joint) (Ok (Joint joint kind)) (Err BadName) (λ r. IfOk r IsNamed) (λ is. is) (λ _. tt)
+joint_kept joint (Some kind) =
+    cond_both (is_name joint) (Ok (Joint joint kind)) (Err BadName) (λ r. IfOk r IsNamed) (λ is. is) (λ _. tt)
 
 reference_kept : (controller joint : List ℕ) (kind : Option Kind) → IfOk (reference_of controller joint kind) IsNamed
 reference_kept controller joint None = tt
 reference_kept controller joint (Some kind) =
-    cond_both (is_name controller && is_name joint) (Ok (Reference controller joint kind)) (Err BadName) (λ r. IfOk r IsNamed)
+    cond_both (is_name controller && is_name joint) (Ok (Reference controller joint kind)) (Err BadName)
+    (λ r. IfOk r IsNamed)
     (λ both. and_parts (is_name controller) (is_name joint) both) (λ _. tt)
 
 parts_kept : (ps : List (List ℕ)) → IfOk (interface_of_parts ps) IsNamed
@@ -162,13 +176,16 @@ state_kept d = bind_keeps IsNamed IsOfJoint (interface_in d) _ (interface_kept d
 pub states_give : Gives (list_of state_in).read (AllByRecursion IsOfJoint)
 states_give = list_gives state_in IsOfJoint (record { kept = state_kept })
 
-all_or_keeps : (states : List IfaceName) → AllByRecursion IsOfJoint states → (path : List ℕ) (d : Data) → IfOk (all_or_read states path d) (AllByRecursion IsOfJoint)
+all_or_keeps : (states : List IfaceName) → AllByRecursion IsOfJoint states → (path : List ℕ) (d : Data)
+    → IfOk (all_or_read states path d) (AllByRecursion IsOfJoint)
 all_or_keeps states of_joints path (string text) =
-    cond_both (same_key text (codes "all")) (Ok states) (Err (BadValue path)) (λ r. IfOk r (AllByRecursion IsOfJoint)) (λ _. of_joints) (λ _. tt)
+    cond_both (same_key text (codes "all")) (Ok states) (Err (BadValue path)) (λ r. IfOk r (AllByRecursion IsOfJoint))
+    (λ _. of_joints) (λ _. tt)
 all_or_keeps states of_joints path d = list_keeps state_in IsOfJoint (record { kept = state_kept }) path d
 
 -- so are all of them, if those that are described are
-pub all_or_list_gives : (states : List IfaceName) → AllByRecursion IsOfJoint states → Gives (all_or_list states).read (AllByRecursion IsOfJoint)
+pub all_or_list_gives : (states : List IfaceName) → AllByRecursion IsOfJoint states
+    → Gives (all_or_list states).read (AllByRecursion IsOfJoint)
 all_or_list_gives states of_joints = record { given = all_or_keeps states of_joints }
 
 -- ---- The state after a failure
@@ -178,10 +195,12 @@ abbrev pub IsOnError : Life → Type 0
 IsOnError life = (life ≡ Unconfigured) ⊎ (life ≡ Finalized)
 
 -- what a word stands for is among the meanings
-listed_keeps : {A : Type 0} (P : A → Type 0) (words : List (List ℕ × A)) (text : List ℕ) → AllByRecursion (λ row. P row.1) words → IfOk (where_some (listed words text)) P
+listed_keeps : {A : Type 0} (P : A → Type 0) (words : List (List ℕ × A)) (text : List ℕ)
+    → AllByRecursion (λ row. P row.1) words → IfOk (where_some (listed words text)) P
 listed_keeps P [] text all = tt
 listed_keeps P ((word, meaning) ∷ words) text all =
-    cond_both (same_name text word) (Some meaning) (listed words text) (λ o. IfOk (where_some o) P) (λ _. all.0) (λ _. listed_keeps P words text all.1)
+    cond_both (same_name text word) (Some meaning) (listed words text) (λ o. IfOk (where_some o) P) (λ _. all.0)
+    (λ _. listed_keeps P words text all.1)
 
 on_error_kept : (d : Data) → IfOk (word_in lives_on_error d) IsOnError
 on_error_kept (string text) = listed_keeps IsOnError lives_on_error text (inl refl, (inr refl, tt))

@@ -15,7 +15,8 @@ use Rattle.cm_document.specs.declared.description.TheConstants.{CONTROLLER_KINDS
 
 -- the first row with the word has the meaning that is listed for it
 pub found_is_listed : {R A : Type 0} (text : R → List ℕ) (meaning : R → A) (rows : List R) (word : List ℕ)
-    → option_map meaning (find (λ row. same_name word (text row)) rows) ≡ listed (map (λ row. (text row, meaning row)) rows) word
+    → option_map meaning (find (λ row. same_name word (text row)) rows)
+    ≡ listed (map (λ row. (text row, meaning row)) rows) word
 found_is_listed text meaning [] word = refl
 found_is_listed text meaning (row ∷ rows) word = elim (cases_Bool (same_name word (text row))) [
   | inl this ↦ rw this refl

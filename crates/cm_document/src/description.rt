@@ -1,8 +1,10 @@
 //! The description of a robot: its components with their joints, and its controllers.
 
 ghost use Rattle.std.specs.Prelude.{◌≡◌, option_map};
-ghost use Rattle.cm_document.specs.Params.{kind_of, claims_asked, reads_asked, exports_of, fewest_claims, most_claims, reads_beside};
-ghost use Rattle.cm_document.specs.Params.{claimed_kind, read_kind, may_carry, limits_at, told_claims, told_reads, made_of};
+ghost use Rattle.cm_document.specs.Params.{kind_of, claims_asked, reads_asked, exports_of};
+ghost use Rattle.cm_document.specs.Params.{fewest_claims, most_claims, reads_beside};
+ghost use Rattle.cm_document.specs.Params.{claimed_kind, read_kind, may_carry};
+ghost use Rattle.cm_document.specs.Params.{limits_at, told_claims, told_reads, made_of};
 ghost use Rattle.cm_document.specs.Valid.{first_below};
 
 use crate::bounded::first_below;
@@ -191,13 +193,15 @@ pub struct CtlDesc {
     pub fallback: Seq<Name>,
     /// The command interfaces that it claims, in written order.
     pub claims: Seq<IfaceName>,
-    /// The state interfaces that it reads, in written order. `reads = "all"` stands here as its list, which all such controllers share.
+    /// The state interfaces that it reads, in written order. `reads = "all"` stands here as its list, which all such
+    /// controllers share.
     pub reads: Shared<Seq<IfaceName>>,
     /// What it computes, with its parameters.
     pub params: Params,
 }
 
-/// A controller's parameters, by its kind. A count of claims or reads is their number, or 4,294,967,295 where that is smaller.
+/// A controller's parameters, by its kind. A count of claims or reads is their number, or 4,294,967,295 where that is
+/// smaller.
 #[derive(Clone, Debug, PartialEq, Eq, Drop)]
 pub enum Params {
     /// A forward.

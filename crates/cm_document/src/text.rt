@@ -57,8 +57,8 @@ impl Eq for Text {
     ghost laws = { Prim.search (comparing, rules) };
 }
 
-/// Control characters print as TOML writes them, a `\u` and four hexadecimal digits: the text stays one line, and tells a terminal
-/// nothing. All others print as they are.
+/// Control characters print as TOML writes them, a `\u` and four hexadecimal digits: the text stays one line, and tells
+/// a terminal nothing. All others print as they are.
 impl fmt::Display for Text {
     fn fmt<W: fmt::Write>(&self, f: &mut fmt::Formatter<W>) -> fmt::Result {
         for c in self.text.chars() {

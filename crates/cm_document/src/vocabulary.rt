@@ -3,7 +3,8 @@
 ghost use Rattle.std.specs.Prelude.{◌≡◌, ◌<◌, map, find, position, option_copied};
 ghost use Rattle.iface_names.specs.Names.{same_name};
 ghost use Rattle.cm_document.specs.Params.{same_controller_kind};
-ghost use Rattle.cm_document.specs.Vocabulary.{listed, same_component_kind, component_word, controller_word, place_of, same_life, life_word, same_verb, verb_word, bool_eq, strictness_word};
+ghost use Rattle.cm_document.specs.Vocabulary.{listed, same_component_kind, component_word, controller_word, place_of};
+ghost use Rattle.cm_document.specs.Vocabulary.{same_life, life_word, same_verb, verb_word, bool_eq, strictness_word};
 
 use crate::description::{CONTROLLER_KINDS, CompKind, CtlKind, NUMBER_OF_KINDS};
 use crate::life::Life;

@@ -1,5 +1,7 @@
--- Whom an interface belongs to: the one active controller that claims it, found by place of the description or among the loaded ones.
-use Rattle.std.proofs.Common.{◌≡◌, ℕ, zero, suc, ◌+◌, ◌<◌, Bool, true, false, List, [], ◌∷◌, ◌++◌, length, Option, Some, None, inl, inr, refl, sym, subst, ap, ap₂, ◌∙◌, true≢false, arith}
+-- Whom an interface belongs to: the one active controller that claims it, found by place of the description or among
+-- the loaded ones.
+use Rattle.std.proofs.Common.{◌≡◌, ℕ, zero, suc, ◌+◌, ◌<◌, Bool, true, false, List, [], ◌∷◌, ◌++◌, length}
+use Rattle.std.proofs.Common.{Option, Some, None, inl, inr, refl, sym, subst, ap, ap₂, ◌∙◌, true≢false, arith}
 use Rattle.std.specs.Prelude.{◌==◌, ◌&&◌, ◌||◌, if◌then◌else◌, find, option_map, is_some, slice_get}
 use Rattle.std.specs.List.{AllByRecursion, list_any}
 use Rattle.std.specs.Option.{option_map_or, option_or}
@@ -35,11 +37,13 @@ find_none f [] all = refl
 find_none f (x ∷ xs) all = rw all.0 (find_none f xs all.1)
 
 -- what is found passes, and is one of them
-pub found_passes : {A : Type 0} (f : A → Bool) (xs : List A) (y : A) → find f xs ≡ Some y → (f y ≡ true) × ((g : A → Bool) → g y ≡ true → list_any g xs ≡ true)
+pub found_passes : {A : Type 0} (f : A → Bool) (xs : List A) (y : A) → find f xs ≡ Some y
+    → (f y ≡ true) × ((g : A → Bool) → g y ≡ true → list_any g xs ≡ true)
 found_passes f [] y found = cc
 found_passes {A = A} f (x ∷ xs) y found = by_test (f x) refl (found_passes f xs y)
   where
-    by_test : (b : Bool) → f x ≡ b → (find f xs ≡ Some y → (f y ≡ true) × ((g : A → Bool) → g y ≡ true → list_any g xs ≡ true))
+    by_test : (b : Bool) → f x ≡ b
+        → (find f xs ≡ Some y → (f y ≡ true) × ((g : A → Bool) → g y ≡ true → list_any g xs ≡ true))
         → (f y ≡ true) × ((g : A → Bool) → g y ≡ true → list_any g (x ∷ xs) ≡ true)
     by_test true is rest =
         let here : Some x ≡ Some y = rw is at found in
@@ -50,18 +54,21 @@ found_passes {A = A} f (x ∷ xs) y found = by_test (f x) refl (found_passes f x
         (later.0, λ g passes. or_right (g x) (list_any g xs) (later.1 g passes))
 
 -- something is found where something passes
-pub found_any : (test : Loaded → Bool) (ls : List Loaded) → is_some (option_map (λ (l : Loaded). l.serial) (find test ls)) ≡ list_any test ls
+pub found_any : (test : Loaded → Bool) (ls : List Loaded)
+    → is_some (option_map (λ (l : Loaded). l.serial) (find test ls)) ≡ list_any test ls
 found_any test [] = refl
 found_any test (l ∷ ls) = by_test (test l) refl (found_any test ls)
   where
-    by_test : (b : Bool) → test l ≡ b → is_some (option_map (λ (l : Loaded). l.serial) (find test ls)) ≡ list_any test ls
+    by_test : (b : Bool) → test l ≡ b
+        → is_some (option_map (λ (l : Loaded). l.serial) (find test ls)) ≡ list_any test ls
         → is_some (option_map (λ (l : Loaded). l.serial) (find test (l ∷ ls))) ≡ list_any test (l ∷ ls)
     by_test true is rest = rw is refl
     by_test false is rest = rw is rest
 
 -- ---- The first of places below a bound
 
-first_append : {A B : Type 0} (f : A → Option B) (xs ys : List A) → first_of f (xs ++ ys) ≡ option_or (first_of f xs) (first_of f ys)
+first_append : {A B : Type 0} (f : A → Option B) (xs ys : List A)
+    → first_of f (xs ++ ys) ≡ option_or (first_of f xs) (first_of f ys)
 first_append f [] ys = refl
 first_append {B = B} f (x ∷ xs) ys = either (f x) (first_append f xs ys)
   where
@@ -84,7 +91,8 @@ module _ {B : Type 0} (f : ℕ → Option B) (test : ℕ → Bool) where
   below_none zero none = refl
   below_none (suc n) none =
       first_append f (places_below test n) (if test n then n ∷ [] else [])
-      ∙ ap₂ (λ (x y : Option B). option_or x y) (below_none n (λ p less. none p (omega (arith, less)))) (last_none n (none n (omega arith)))
+      ∙ ap₂ (λ (x y : Option B). option_or x y) (below_none n (λ p less. none p (omega (arith, less))))
+      (last_none n (none n (omega arith)))
 
   kept_first : (x y : Option B) → is_some x ≡ true → option_or x y ≡ x
   kept_first None y some = absurd (true≢false (sym some))
@@ -95,19 +103,24 @@ module _ {B : Type 0} (f : ℕ → Option B) (test : ℕ → Bool) where
   none_of (Some b) not = absurd (not refl)
 
   -- where one alone has something, that is found
-  below_one : (n only : ℕ) → only < n → test only ≡ true → is_some (f only) ≡ true → ((p : ℕ) → p < n → test p ≡ true → is_some (f p) ≡ true → p ≡ only)
+  below_one : (n only : ℕ) → only < n → test only ≡ true → is_some (f only) ≡ true
+      → ((p : ℕ) → p < n → test p ≡ true → is_some (f p) ≡ true → p ≡ only)
       → first_of f (places_below test n) ≡ f only
   below_one zero only less passes has alone = absurd (omega (arith, less))
   below_one (suc n) only less passes has alone =
       first_append f (places_below test n) (if test n then n ∷ [] else [])
       ∙ elim (cases_lt only n) [
         | inl before ↦
-            ap (λ x. option_or x (first_of f (if test n then n ∷ [] else []))) (below_one n only before passes has (λ p below. alone p (omega (arith, below))))
+            ap (λ x. option_or x (first_of f (if test n then n ∷ [] else [])))
+            (below_one n only before passes has (λ p below. alone p (omega (arith, below))))
             ∙ kept_first (f only) (first_of f (if test n then n ∷ [] else [])) has
         | inr not ↦
             (let is : n ≡ only = omega (arith, not, less) in
             let earlier : first_of f (places_below test n) ≡ None =
-            below_none n (λ p below test. none_of (f p) (λ some. let same : p ≡ only = alone p (omega (arith, below)) test some in omega (arith, below, same, is))) in
+            below_none n
+            (λ p below test. none_of (f p)
+            (λ some. let same : p ≡ only = alone p (omega (arith, below)) test some in
+            omega (arith, below, same, is))) in
             rw (earlier, is, passes) (either (f only)))
       ]
     where
@@ -117,18 +130,22 @@ module _ {B : Type 0} (f : ℕ → Option B) (test : ℕ → Bool) where
 
 -- ---- Claims by place
 
-among_claims : (name : IfaceName) (claims : List IfaceName) → is_among name claims ≡ list_any (λ claim. same_interface claim name) claims
+among_claims : (name : IfaceName) (claims : List IfaceName)
+    → is_among name claims ≡ list_any (λ claim. same_interface claim name) claims
 among_claims name [] = refl
-among_claims name (claim ∷ claims) = ap₂ (λ (x y : Bool). x || y) (same_interface-IsEquivalence.symm name claim) (among_claims name claims)
+among_claims name (claim ∷ claims) =
+    ap₂ (λ (x y : Bool). x || y) (same_interface-IsEquivalence.symm name claim) (among_claims name claims)
 
 -- a loaded controller claims what the described one at its place does
-claims_there : (cs : List CtlDesc) (name : IfaceName) (p : ℕ) → option_map_or (λ c. is_among name c.claims) (slice_get cs p) false ≡ claims_at cs p name
+claims_there : (cs : List CtlDesc) (name : IfaceName) (p : ℕ)
+    → option_map_or (λ c. is_among name c.claims) (slice_get cs p) false ≡ claims_at cs p name
 claims_there [] name zero = refl
 claims_there [] name (suc p) = refl
 claims_there (c ∷ cs) name zero = among_claims name c.claims
 claims_there (c ∷ cs) name (suc p) = claims_there cs name p
 
-pub claims_alike : (cs : List CtlDesc) (name : IfaceName) (l : Loaded) → claims_name cs name l ≡ claims_at cs l.place name
+pub claims_alike : (cs : List CtlDesc) (name : IfaceName) (l : Loaded)
+    → claims_name cs name l ≡ claims_at cs l.place name
 claims_alike cs name l = claims_there cs name l.place
 
 -- what is past the last claims nothing
@@ -141,7 +158,9 @@ claims_within (c ∷ cs) (suc p) name claims = let less = claims_within cs p nam
 -- ---- The owner
 
 -- of each loaded controller that passes it is so that one at its place passes
-each_there : (test : Loaded → Bool) (ls others : List Loaded) → ((p : ℕ) → has_loaded test others p ≡ true → has_loaded test ls p ≡ true) → AllByRecursion (λ l. test l ≡ true → has_loaded test ls l.place ≡ true) others
+each_there : (test : Loaded → Bool) (ls others : List Loaded)
+    → ((p : ℕ) → has_loaded test others p ≡ true → has_loaded test ls p ≡ true)
+    → AllByRecursion (λ l. test l ≡ true → has_loaded test ls l.place ≡ true) others
 each_there test ls [] within = tt
 each_there test ls (l ∷ others) within = (
   λ passes. within l.place (rw (passes, eq-eqb l.place l.place refl) refl),
@@ -158,7 +177,8 @@ module _ (cs : List CtlDesc) (ls : List Loaded) (name : IfaceName) where
 
   -- no two active ones claim it
   abbrev IsAlone : Type 0
-  IsAlone = (p q : ℕ) → has_loaded is_active ls p ≡ true → has_loaded is_active ls q ≡ true → claims_at cs p name ≡ true → claims_at cs q name ≡ true → p ≡ q
+  IsAlone = (p q : ℕ) → has_loaded is_active ls p ≡ true → has_loaded is_active ls q ≡ true → claims_at cs p name ≡ true
+      → claims_at cs q name ≡ true → p ≡ q
 
   -- where nobody that is active claims it, nobody at the place of a claimer is active
   none_there : (p : ℕ) → claims_at cs p name ≡ true → (l : Loaded) → claims_it l ≡ false → at_place p l ≡ false
@@ -170,41 +190,56 @@ module _ (cs : List CtlDesc) (ls : List Loaded) (name : IfaceName) where
       true≢false (sym (and_from (is_active l) (claims_name cs name l) parts.0 its) ∙ none))
 
   -- where one does, the active ones that claim it are those of its place
-  same_test : (only : ℕ) → IsAlone → has_loaded is_active ls only ≡ true → claims_at cs only name ≡ true → (l : Loaded) → (is_active l ≡ true → has_loaded is_active ls l.place ≡ true)
+  same_test : (only : ℕ) → IsAlone → has_loaded is_active ls only ≡ true → claims_at cs only name ≡ true → (l : Loaded)
+      → (is_active l ≡ true → has_loaded is_active ls l.place ≡ true)
       → claims_it l ≡ at_place only l
-  same_test only alone runs claims l there = by_test (is_active l) (l.place == only) (claims_name cs name l) refl refl refl
+  same_test only alone runs claims l there =
+      by_test (is_active l) (l.place == only) (claims_name cs name l) refl refl refl
     where
-      by_test : (active here its : Bool) → is_active l ≡ active → (l.place == only) ≡ here → claims_name cs name l ≡ its → (active && its) ≡ (active && here)
+      by_test : (active here its : Bool) → is_active l ≡ active → (l.place == only) ≡ here → claims_name cs name l ≡ its
+          → (active && its) ≡ (active && here)
       by_test false here its a h c = refl
       by_test true true true a h c = refl
       by_test true false false a h c = refl
       by_test true true false a h c =
-          absurd (true≢false (sym claims ∙ ap (λ q. claims_at cs q name) (sym (eqb-true l.place only h)) ∙ sym (claims_alike cs name l) ∙ c))
+          absurd (true≢false
+          (sym claims ∙ ap (λ q. claims_at cs q name) (sym (eqb-true l.place only h)) ∙ sym (claims_alike cs name l)
+          ∙ c))
       by_test true false true a h c =
           let same : l.place ≡ only = alone l.place only (there a) runs (sym (claims_alike cs name l) ∙ c) claims in
           absurd (true≢false (sym (eq-eqb l.place only same) ∙ h))
 
   -- The first active one among those that claim it, by place, is the active one that claims it.
-  pub owner_by_place : (serials : ℕ → Option ℕ) → ((p : ℕ) → p < length cs → serials p ≡ option_map (λ (l : Loaded). l.serial) (find (at_place p) ls)) → IsAlone
-      → first_of serials (places_below (λ p. claims_at cs p name) (length cs)) ≡ option_map (λ (l : Loaded). l.serial) (find claims_it ls)
+  pub owner_by_place : (serials : ℕ → Option ℕ)
+      → ((p : ℕ) → p < length cs → serials p ≡ option_map (λ (l : Loaded). l.serial) (find (at_place p) ls)) → IsAlone
+      → first_of serials (places_below (λ p. claims_at cs p name) (length cs))
+      ≡ option_map (λ (l : Loaded). l.serial) (find claims_it ls)
   owner_by_place serials each alone =
       elim (cases_Option (find claims_it ls)) [
         | inl none ↦
             (let nobody = none_found claims_it ls none in
             below_none serials (λ p. claims_at cs p name) (length cs)
-            (λ p below claims. each p below ∙ ap (option_map (λ (l : Loaded). l.serial)) (find_none (at_place p) ls (all_so _ _ (none_there p claims) ls nobody)))
+            (λ p below claims. each p below
+            ∙ ap (option_map (λ (l : Loaded). l.serial))
+            (find_none (at_place p) ls (all_so _ _ (none_there p claims) ls nobody)))
             ∙ sym (ap (option_map (λ (l : Loaded). l.serial)) none))
         | inr found ↦ one found.0 found.1
       ]
     where
-      one : (l : Loaded) → find claims_it ls ≡ Some l → first_of serials (places_below (λ p. claims_at cs p name) (length cs)) ≡ option_map (λ (l : Loaded). l.serial) (find claims_it ls)
+      one : (l : Loaded) → find claims_it ls ≡ Some l
+          → first_of serials (places_below (λ p. claims_at cs p name) (length cs))
+          ≡ option_map (λ (l : Loaded). l.serial) (find claims_it ls)
       one l found =
           let passes = found_passes claims_it ls l found in
           let parts = and_parts (is_active l) (claims_name cs name l) passes.0 in
           let claims : claims_at cs l.place name ≡ true = sym (claims_alike cs name l) ∙ parts.1 in
-          let runs : has_loaded is_active ls l.place ≡ true = passes.1 (at_place l.place) (and_from (is_active l) (l.place == l.place) parts.0 (eq-eqb l.place l.place refl)) in
+          let runs : has_loaded is_active ls l.place ≡ true =
+          passes.1 (at_place l.place)
+          (and_from (is_active l) (l.place == l.place) parts.0 (eq-eqb l.place l.place refl)) in
           let below : l.place < length cs = claims_within cs l.place name claims in
-          let active : (p : ℕ) → p < length cs → is_some (serials p) ≡ has_loaded is_active ls p = λ p less. ap (λ (o : Option ℕ). is_some o) (each p less) ∙ found_any (at_place p) ls in
+          let active : (p : ℕ) → p < length cs
+          → is_some (serials p) ≡ has_loaded is_active ls p =
+          λ p less. ap (λ (o : Option ℕ). is_some o) (each p less) ∙ found_any (at_place p) ls in
           below_one serials (λ p. claims_at cs p name) (length cs) l.place below claims (active l.place below ∙ runs)
           (λ p less its some. alone p l.place (sym (active p less) ∙ some) runs its claims)
           ∙ each l.place below

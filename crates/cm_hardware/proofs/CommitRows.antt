@@ -4,8 +4,8 @@ use Rattle.fixed_num.specs.declared.value.Value.TheVariants.{Unset, Num}
 use Rattle.loan_board.specs.declared.board.Loan.{Loan}
 use Rattle.cm_hardware.specs.Committed.{relent_by, each_changed, numbers_from}
 
--- Of three controllers the second and the third are active after the commit, under the serials 7 and 9; the first and the third were
--- stopped: that one left, this one restarts.
+-- Of three controllers the second and the third are active after the commit, under the serials 7 and 9; the first and
+-- the third were stopped: that one left, this one restarts.
 abbrev serials : List (Option ℕ)
 serials = None ∷ Some 7 ∷ Some 9 ∷ []
 
@@ -25,7 +25,8 @@ handed_on : relent_by serials stopped (0 ∷ 1 ∷ []) None command ≡ record c
 handed_on = refl
 
 -- the third claims it, and has it again; it becomes Unset
-kept_by_one_that_restarts : relent_by serials stopped (2 ∷ []) None command ≡ record command { value = Unset; owner = Some 9 }
+kept_by_one_that_restarts : relent_by serials stopped (2 ∷ []) None command
+    ≡ record command { value = Unset; owner = Some 9 }
 kept_by_one_that_restarts = refl
 
 -- the first alone claims it: nobody has it any more
@@ -33,21 +34,25 @@ left_behind : relent_by serials stopped (0 ∷ []) None command ≡ record comma
 left_behind = refl
 
 -- it is not available: nobody has it, and it holds nothing
-gone : relent_by serials stopped (1 ∷ []) None (record command { owner = None; is_available = false }) ≡ record { value = Unset; owner = None; is_command = true; is_available = false }
+gone : relent_by serials stopped (1 ∷ []) None (record command { owner = None; is_available = false })
+    ≡ record { value = Unset; owner = None; is_command = true; is_available = false }
 gone = refl
 
 -- a state interface is nobody's, and keeps what it holds
-measured : relent_by serials stopped [] None (record { value = Num (pos 3); owner = None; is_command = false; is_available = true })
+measured : relent_by serials stopped [] None
+    (record { value = Num (pos 3); owner = None; is_command = false; is_available = true })
     ≡ record { value = Num (pos 3); owner = None; is_command = false; is_available = true }
 measured = refl
 
 -- a reference of the second, which comes: it is available, and the third has it
-offered : relent_by serials (true ∷ false ∷ false ∷ []) (2 ∷ []) (Some 1) (record { value = Unset; owner = None; is_command = true; is_available = false })
+offered : relent_by serials (true ∷ false ∷ false ∷ []) (2 ∷ []) (Some 1)
+    (record { value = Unset; owner = None; is_command = true; is_available = false })
     ≡ record { value = Unset; owner = Some 9; is_command = true; is_available = true }
 offered = refl
 
 -- a reference of the first, which left: it is not available any more, and holds nothing
-withdrawn : relent_by serials stopped (1 ∷ []) (Some 0) command ≡ record { value = Unset; owner = None; is_command = true; is_available = false }
+withdrawn : relent_by serials stopped (1 ∷ []) (Some 0) command
+    ≡ record { value = Unset; owner = None; is_command = true; is_available = false }
 withdrawn = refl
 
 -- the second and the third of three command interfaces are claimed

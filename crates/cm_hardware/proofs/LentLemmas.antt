@@ -1,5 +1,7 @@
--- What the hardware of a state hangs on: of the controllers only who owns what and which are active, and what a cycle's updates keep of that.
-use Rattle.std.proofs.Common.{◌≡◌, ℕ, Bool, true, false, List, [], ◌∷◌, map, Option, Some, None, refl, sym, subst, ap, ap₂, ◌∙◌}
+-- What the hardware of a state hangs on: of the controllers only who owns what and which are active, and what a cycle's
+-- updates keep of that.
+use Rattle.std.proofs.Common.{◌≡◌, ℕ, Bool, true, false, List, [], ◌∷◌, map, Option}
+use Rattle.std.proofs.Common.{Some, None, refl, sym, subst, ap, ap₂, ◌∙◌}
 use Rattle.std.specs.Prelude.{◌==◌, ◌&&◌, find, option_map, is_some, if◌then◌else◌}
 use Rattle.std.specs.List.{AllByRecursion}
 use mathlib.Core.Path.{fun_ext}
@@ -38,10 +40,13 @@ find_alike test (x ∷ xs) [] same = cc
 find_alike test (x ∷ xs) (y ∷ ys) same =
     let head : seen test x ≡ seen test y = cc in
     let tail : map (seen test) xs ≡ map (seen test) ys = cc in
-    by_test (test y) (ap (λ (p : Bool × ℕ). p.0) head) refl (ap (λ (p : Bool × ℕ). p.1) head) (find_alike test xs ys tail)
+    by_test (test y) (ap (λ (p : Bool × ℕ). p.0) head) refl (ap (λ (p : Bool × ℕ). p.1) head)
+    (find_alike test xs ys tail)
   where
-    by_test : (b : Bool) → test x ≡ test y → test y ≡ b → x.serial ≡ y.serial → option_map (λ (l : Loaded). l.serial) (find test xs) ≡ option_map (λ (l : Loaded). l.serial) (find test ys)
-        → option_map (λ (l : Loaded). l.serial) (find test (x ∷ xs)) ≡ option_map (λ (l : Loaded). l.serial) (find test (y ∷ ys))
+    by_test : (b : Bool) → test x ≡ test y → test y ≡ b → x.serial ≡ y.serial
+        → option_map (λ (l : Loaded). l.serial) (find test xs) ≡ option_map (λ (l : Loaded). l.serial) (find test ys)
+        → option_map (λ (l : Loaded). l.serial) (find test (x ∷ xs))
+        ≡ option_map (λ (l : Loaded). l.serial) (find test (y ∷ ys))
     by_test true tests is serials rest = rw (tests ∙ is, is) (ap (λ (n : ℕ). Some n) serials)
     by_test false tests is serials rest = rw (tests ∙ is, is) rest
 
@@ -54,41 +59,60 @@ step_owns : (s : State) (values : List InterfaceValue) (name : IfaceName) (seria
     → seen (owns s name) (stepped_at s values serial l) ≡ seen (owns s name) l
 step_owns s values name serial l = either (l.serial == serial)
   where
-    either : (b : Bool) → seen (owns s name) (if b then record l { ctl = (step_of s values l).after } else l) ≡ seen (owns s name) l
+    either : (b : Bool)
+        → seen (owns s name) (if b then record l { ctl = (step_of s values l).after } else l) ≡ seen (owns s name) l
     either true =
         let after : CtlData = (step_of s values l).after in
         let chained : option_map runs_chained after.run ≡ option_map runs_chained l.ctl.run =
-        ctl_step_keeps_chained l.ctl (tick_of s l) (states_for values (described_of s l)) (refs_for values (described_of s l)) (mail_for s l.serial) in
-        let runs : is_some after.run ≡ is_some l.ctl.run = sym (some_as_mapped runs_chained after.run) ∙ ap (λ (o : Option Bool). is_some o) chained ∙ some_as_mapped runs_chained l.ctl.run in
+        ctl_step_keeps_chained l.ctl (tick_of s l) (states_for values (described_of s l))
+        (refs_for values (described_of s l)) (mail_for s l.serial) in
+        let runs : is_some after.run ≡ is_some l.ctl.run =
+        sym (some_as_mapped runs_chained after.run) ∙ ap (λ (o : Option Bool). is_some o) chained
+        ∙ some_as_mapped runs_chained l.ctl.run in
         ap (λ (b : Bool). told (b && claims_name s.description.controllers name l) l.serial) runs
     either false = refl
 
 -- Updates leave every interface its owner.
-pub updates_keep_owners : (s : State) (values : List InterfaceValue) (i : Interface) → owner (record s { loaded = (updates s values).loaded }) i ≡ owner s i
+pub updates_keep_owners : (s : State) (values : List InterfaceValue) (i : Interface)
+    → owner (record s { loaded = (updates s values).loaded }) i ≡ owner s i
 updates_keep_owners s values i =
     ap (λ (o : Option ℕ). if i.called.is_command then o else None)
     (find_alike (owns s i.called.name) (updates s values).loaded s.loaded
-    (updates_keep s (seen (owns s i.called.name)) (λ vs serial l. step_owns s vs i.called.name serial l) (record { loaded = s.loaded; values = values; ran = [] }) (updated_in s)))
+    (updates_keep s (seen (owns s i.called.name)) (λ vs serial l. step_owns s vs i.called.name serial l)
+    (record { loaded = s.loaded; values = values; ran = [] }) (updated_in s)))
 
 -- ---- The hardware of states that differ in their controllers
 
 -- the board as it is lent by such owners while such controllers are active
 abbrev lent_by : State → (Interface → Option ℕ) → (ℕ → Bool) → List Loan
 lent_by s own controllers =
-    map (loan_of (λ (i : Interface). if available_in s.lives controllers i.whose then own i else None) (λ (i : Interface). available_in s.lives controllers i.whose)) s.values
+    map (loan_of (λ (i : Interface). if available_in s.lives controllers i.whose then own i else None)
+    (λ (i : Interface). available_in s.lives controllers i.whose)) s.values
 
-pub lent_alike : (s : State) (loaded : List Loaded) (w : Wired) → ((i : Interface) → owner (record s { loaded = loaded }) i ≡ owner s i)
-    → ((p : ℕ) → active (record s { loaded = loaded }) p ≡ active s p) → IsLent s w → IsLent (record s { loaded = loaded }) w
+pub lent_alike : (s : State) (loaded : List Loaded) (w : Wired)
+    → ((i : Interface) → owner (record s { loaded = loaded }) i ≡ owner s i)
+    → ((p : ℕ) → active (record s { loaded = loaded }) p ≡ active s p) → IsLent s w
+    → IsLent (record s { loaded = loaded }) w
 lent_alike s loaded w owned run is =
     let t : State = record s { loaded = loaded } in
     let own : owner s ≡ owner t = sym (fun_ext owned) in
     let controllers : active s ≡ active t = sym (fun_ext run) in
     record {
-      wired = record { components = is.wired.components; lives = is.wired.lives; bodies = is.wired.bodies; joints = is.wired.joints; interfaces = is.wired.interfaces };
+      wired = record {
+        components = is.wired.components;
+        lives = is.wired.lives;
+        bodies = is.wired.bodies;
+        joints =
+            is.wired.joints;
+        interfaces = is.wired.interfaces;
+      };
       loans = is.loans ∙ ap₂ (lent_by s) own controllers;
       places = is.places;
       rest = is.rest;
-      empty = subst (λ (set : ℕ → Bool). AllByRecursion (λ (v : InterfaceValue). available_in s.lives set v.interface.whose ≡ false → v.value ≡ Unset) s.values) controllers is.empty;
+      empty = subst
+          (λ (set : ℕ → Bool). AllByRecursion
+          (λ (v : InterfaceValue). available_in s.lives set v.interface.whose ≡ false → v.value ≡ Unset) s.values)
+          controllers is.empty;
     }
 
 -- ---- What is owned is available
@@ -98,15 +122,27 @@ holder_case true o free = refl
 holder_case false o free = sym (free refl)
 
 -- where every one of these interfaces that has an owner is available, its owner has it
-owners_hold : (s : State) (vs : List InterfaceValue) → AllByRecursion (λ v. available s v.interface ≡ false → owner s v.interface ≡ None) vs
+owners_hold : (s : State) (vs : List InterfaceValue)
+    → AllByRecursion (λ v. available s v.interface ≡ false → owner s v.interface ≡ None) vs
     → map (loan_of (holder s) (available s)) vs ≡ map (loan_of (owner s) (available s)) vs
 owners_hold s [] free = refl
 owners_hold s (v ∷ vs) free =
-    let here : Option ℕ → Loan = λ (o : Option ℕ). record { value = v.value; owner = o; is_command = v.interface.called.is_command; is_available = available s v.interface } in
-    ap₂ (λ (l : Loan) (ls : List Loan). l ∷ ls) (ap here (holder_case (available s v.interface) (owner s v.interface) free.0)) (owners_hold s vs free.1)
+    let here : Option ℕ
+    → Loan = λ (o : Option ℕ). record {
+      value = v.value;
+      owner = o;
+      is_command = v.interface.called.is_command;
+      is_available =
+          available s v.interface;
+    } in
+    ap₂ (λ (l : Loan) (ls : List Loan). l ∷ ls)
+    (ap here (holder_case (available s v.interface) (owner s v.interface) free.0)) (owners_hold s vs free.1)
 
--- Where every interface that has an owner is available, and the joints go by the claims, hardware that is lent so is that of the state.
-pub moved_is_held : (s : State) (w : Wired) → AllByRecursion (λ v. available s v.interface ≡ false → owner s v.interface ≡ None) s.values → IsMoved s w → IsHardwareOf s w
+-- Where every interface that has an owner is available, and the joints go by the claims, hardware that is lent so is
+-- that of the state.
+pub moved_is_held : (s : State) (w : Wired)
+    → AllByRecursion (λ v. available s v.interface ≡ false → owner s v.interface ≡ None) s.values → IsMoved s w
+    → IsHardwareOf s w
 moved_is_held s w free moved =
     let is = moved.lent in
     record {
@@ -119,7 +155,9 @@ moved_is_held s w free moved =
     }
 
 -- And the hardware of a state is lent so, where nobody owns what is not available.
-pub held_is_moved : (s : State) (w : Wired) → AllByRecursion (λ v. available s v.interface ≡ false → owner s v.interface ≡ None) s.values → IsHardwareOf s w → IsMoved s w
+pub held_is_moved : (s : State) (w : Wired)
+    → AllByRecursion (λ v. available s v.interface ≡ false → owner s v.interface ≡ None) s.values → IsHardwareOf s w
+    → IsMoved s w
 held_is_moved s w free is = record {
   lent = record {
     wired = is.wired;
@@ -133,4 +171,5 @@ held_is_moved s w free is = record {
 
 -- as it is on each sound board
 pub sound_is_moved : (s : State) (w : Wired) → AreSound w.loans → IsHardwareOf s w → IsMoved s w
-sound_is_moved s w sound is = held_is_moved s w (frees (owner s) s.lives (active s) s.values (rw (sym is.loans) sound)) is
+sound_is_moved s w sound is =
+    held_is_moved s w (frees (owner s) s.lives (active s) s.values (rw (sym is.loans) sound)) is

@@ -7,7 +7,9 @@ ghost use Rattle.cm_model.specs.Faults.{first_of};
 ghost use Rattle.cm_model.specs.Order.{set_of};
 ghost use Rattle.loan_board.specs.Loans.{with_loan};
 ghost use Rattle.cm_hardware.specs.Calls.Boards.{IsPlaceOf};
-ghost use Rattle.cm_hardware.specs.Committed.{Commits, serial_in, is_there, owner_in, is_freed_by, relent, all_relent, numbers_from, claims_on, performed, all_performed, with_loans, with_joints};
+ghost use Rattle.cm_hardware.specs.Committed.{Commits, serial_in, is_there, owner_in, is_freed_by};
+ghost use Rattle.cm_hardware.specs.Committed.{relent, all_relent, numbers_from, claims_on};
+ghost use Rattle.cm_hardware.specs.Committed.{performed, all_performed, with_loans, with_joints};
 ghost use Rattle.cm_hardware.specs.Wiring.{all_commands, commands_count, IsSameBuild};
 
 use crate::hardware::Unit;
@@ -17,9 +19,10 @@ use cm_places::CtlPlaces;
 use loan_board::{Board, Loan};
 
 impl ResourceManager {
-    /// A commit, told by place of the description: the serial of each controller that is active after it, and which controllers it
-    /// stops. References are available where their controllers are active; each active controller has what it claims; what those that
-    /// are stopped claim and export becomes Unset; and the joints go by what is claimed. It takes no memory.
+    /// A commit, told by place of the description: the serial of each controller that is active after it, and which
+    /// controllers it stops. References are available where their controllers are active; each active controller has
+    /// what it claims; what those that are stopped claim and export becomes Unset; and the joints go by what is
+    /// claimed. It takes no memory.
     pub fn commit(&mut self, places: &CtlPlaces, active: &[Option<u32>], stopped: &PlaceSet)
         requires claimers { length self.old.loans ≤ length places.now.claimers }
         requires exporters { length self.old.loans ≤ length places.now.exporters }
@@ -90,7 +93,8 @@ fn serial_in(active: &[Option<u32>], place: u32) -> Option<u32>
     active.get(place as usize).copied().unwrap_or(None)
 }
 
-/// Whether an interface is available: a component's as it was, a reference where the controller that exports it is active.
+/// Whether an interface is available: a component's as it was, a reference where the controller that exports it is
+/// active.
 fn is_there(active: &[Option<u32>], exporter: Option<u32>, was: bool) -> bool
     ensures { result ≡ is_there active.now exporter was }
 {

@@ -4,7 +4,8 @@ ghost use Rattle.std.specs.Prelude.{◌≡◌, ◌+◌, ◌<◌, ◌≤◌, ◌+
 ghost use Rattle.cm_model.specs.Cycle.{period};
 ghost use Rattle.cm_model.specs.State.{State};
 ghost use Rattle.loan_board.specs.Loans.{loan_at, with_loan, set};
-ghost use Rattle.cm_hardware.specs.Wiring.{most_failures, writes_to_fail, all_joints, after_reads_in, failed_reads, IsSameBuild};
+ghost use Rattle.cm_hardware.specs.Wiring.{most_failures, writes_to_fail, all_joints};
+ghost use Rattle.cm_hardware.specs.Wiring.{after_reads_in, failed_reads, IsSameBuild};
 ghost use Rattle.cm_hardware.specs.Holding.{IsHardwareOf, IsStill, ReadInCycle, RanCycle};
 ghost use Rattle.cm_hardware.specs.Calls.Cycles.{CanCycle, Finishes, HasRun};
 
@@ -35,8 +36,8 @@ impl ResourceManager {
 
 // A cycle in its parts: the reads, then what controllers give out, then the end. No call takes memory.
 impl ResourceManager {
-    /// The reads of the cycle of this number: every inactive or active component is read, and its state interfaces hold what its bodies
-    /// measure where the read did not fail. It tells of the failures.
+    /// The reads of the cycle of this number: every inactive or active component is read, and its state interfaces hold
+    /// what its bodies measure where the read did not fail. It tells of the failures.
     pub fn read(&mut self, number: u64, failed: &mut ListRoom<FailedPart>)
         requires { most_failures self.old.components ≤ failed.old.room }
         ensures read { (s : State) → IsHardwareOf s self.old → s.ended ≡ number
@@ -63,9 +64,9 @@ impl ResourceManager {
         self.board.set(place, value);
     }
 
-    /// The end of the cycle of this number: the active components are written whose read did not fail; the body of every joint steps by
-    /// `dt_us` microseconds, as the claims on it and what these hold say; those that failed go to their state on error. It tells of the
-    /// failures of writes and of the bodies.
+    /// The end of the cycle of this number: the active components are written whose read did not fail; the body of
+    /// every joint steps by `dt_us` microseconds, as the claims on it and what these hold say; those that failed go to
+    /// their state on error. It tells of the failures of writes and of the bodies.
     pub fn finish(
         &mut self,
         number: u64,
@@ -84,9 +85,9 @@ impl ResourceManager {
 }
 
 impl ResourceManager {
-    /// One cycle of `dt_us` microseconds while no controller is active: the inactive and active components are read, and
-    /// the active ones written whose read did not fail; the body of every joint steps; those that failed go to their
-    /// state on error. It tells of the failures and of the bodies, and takes no memory.
+    /// One cycle of `dt_us` microseconds while no controller is active: the inactive and active components are read,
+    /// and the active ones written whose read did not fail; the body of every joint steps; those that failed go to
+    /// their state on error. It tells of the failures and of the bodies, and takes no memory.
     pub fn cycle(
         &mut self,
         number: u64,

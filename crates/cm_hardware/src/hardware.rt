@@ -5,7 +5,10 @@ ghost use Rattle.std.specs.List.{list_any};
 ghost use Rattle.cm_model.specs.Components.{is_available, measured_states};
 ghost use Rattle.loan_board.specs.Loans.{with_loan};
 ghost use Rattle.cm_hardware.specs.Calls.Cycles.{CanRead, HasRead, CanWrite, CanStep, CanStepEach};
-ghost use Rattle.cm_hardware.specs.Wiring.{read, states_count, with_values, after_read_of, failure, commands_count, all_written, failed_writes, values_at, fails_write, one_if, can_fail, most_failures, written, stepped_on, all_joints, all_bodies, AreFew, vacated, leaves, has_left, after_failure, after_failures_of};
+ghost use Rattle.cm_hardware.specs.Wiring.{read, states_count, with_values, after_read_of, failure, commands_count};
+ghost use Rattle.cm_hardware.specs.Wiring.{all_written, failed_writes, values_at, fails_write, one_if, can_fail};
+ghost use Rattle.cm_hardware.specs.Wiring.{most_failures, written, stepped_on, all_joints, all_bodies, AreFew};
+ghost use Rattle.cm_hardware.specs.Wiring.{vacated, leaves, has_left, after_failure, after_failures_of};
 
 use cm_document::{CompDesc, Life};
 use cm_storage::{Done, FailedPart};
@@ -93,8 +96,8 @@ impl Unit {
         self.commands.len()
     }
 
-    /// Writes the component, where it is active and its read did not fail, from its places of the board, the first of which is `at`.
-    /// Tells whether the write failed.
+    /// Writes the component, where it is active and its read did not fail, from its places of the board, the first of
+    /// which is `at`. Tells whether the write failed.
     fn write(&mut self, board: &Board, at: u32, cycle: u64) -> bool
         requires { at + commands_count self.old ≤ length board.now }
         ensures unit { self.new ≡ written cycle at board.now self.old }
@@ -180,8 +183,8 @@ pub(crate) fn read_units(
     }
 }
 
-/// Writes every component that is active and whose read did not fail, as described, and tells which writes failed. The first command
-/// interface has the place `first`.
+/// Writes every component that is active and whose read did not fail, as described, and tells which writes failed. The
+/// first command interface has the place `first`.
 pub(crate) fn write_units(
     units: &mut [Unit],
     board: &Board,
@@ -321,8 +324,8 @@ fn fail_each(units: &mut [Unit])
     }
 }
 
-/// Every component that failed goes to its state on error, and its interfaces become free, unavailable and Unset where they are not
-/// available in that state.
+/// Every component that failed goes to its state on error, and its interfaces become free, unavailable and Unset where
+/// they are not available in that state.
 #[tactic(auto, using(crate::proofs::SoundLemmas::none_failed))]
 pub(crate) fn fail_units(units: &mut [Unit], board: &mut Board, places: &[Option<u32>])
     requires { length places.now ≤ length board.old }

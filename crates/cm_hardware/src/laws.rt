@@ -25,14 +25,16 @@ pub fn the_board_holds_what_the_interfaces_hold()
         → (place : ℕ) → (loan_at w.loans place).value ≡ value_at values place }
 {}
 
-/// In a cycle an output that is set at the place of an available interface is one to that interface, and nothing else changes.
+/// In a cycle an output that is set at the place of an available interface is one to that interface, and nothing else
+/// changes.
 pub fn an_output_is_set_at_its_place()
     ensures { (s : State) (values : List InterfaceValue) (w : Wired) (place : ℕ) (value : Value) → IsInCycle s values w
         → is_there_at s values place ≡ true
         → IsInCycle s (with_value values place value) (record w { loans = with_loan w.loans place (set value) }) }
 {}
 
-/// What an active controller claims is available, at each of the places of its claims, where the active controllers can run together.
+/// What an active controller claims is available, at each of the places of its claims, where the active controllers can
+/// run together.
 pub fn what_an_active_controller_claims_is_there()
     ensures { (s : State) → IsValid s.description → CanRunTogether s.description s.lives (active s)
         → (values : List InterfaceValue) → map (λ v. v.interface) values ≡ interfaces_of s.description
@@ -40,8 +42,8 @@ pub fn what_an_active_controller_claims_is_there()
         (filter_map (command_place s.description) (controller_at s.description.controllers p).claims) }
 {}
 
-/// Where the active controllers of a state can run together, what is not available has no owner; so hardware of which a component has
-/// moved is that of the state.
+/// Where the active controllers of a state can run together, what is not available has no owner; so hardware of which a
+/// component has moved is that of the state.
 pub fn moved_hardware_is_that_of_the_state()
     ensures free { (s : State) → IsValid s.description → CanRunTogether s.description s.lives (active s)
         → map (λ v. v.interface) s.values ≡ interfaces_of s.description
@@ -50,7 +52,8 @@ pub fn moved_hardware_is_that_of_the_state()
         → IsMoved s w → IsHardwareOf s w }
 {}
 
-/// Of the controllers the hardware of a state hangs on nothing but who owns which interface and which interfaces are available.
+/// Of the controllers the hardware of a state hangs on nothing but who owns which interface and which interfaces are
+/// available.
 pub fn hardware_goes_by_owners_and_what_is_available()
     ensures { (s t : State) (w : Wired) → IsHardwareOf s w
         → t.description ≡ s.description → t.lives ≡ s.lives → t.bodies ≡ s.bodies → t.values ≡ s.values

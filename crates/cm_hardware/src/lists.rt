@@ -24,7 +24,8 @@ pub struct Lists {
 }
 
 impl Lists {
-    /// The list of interfaces, as it was written down. No board is longer than a word counts; of a longer list there would be no room.
+    /// The list of interfaces, as it was written down. No board is longer than a word counts; of a longer list there
+    /// would be no room.
     pub fn interface_lines(&self, alloc: Global) -> Result<Seq<IfaceLine>, Memory>
         ensures { IfOk result (λ lines. lines ≡ loan_lines_from 0 self.now.loans.items) }
     {

@@ -5,7 +5,8 @@ ghost use Rattle.cm_model.specs.Components.{is_available, has_move};
 ghost use Rattle.cm_model.specs.State.{State};
 ghost use Rattle.loan_board.specs.Loans.{with_loan, made_available};
 ghost use Rattle.cm_hardware.specs.Calls.Boards.{CanSettle};
-ghost use Rattle.cm_hardware.specs.Wiring.{all_states, AreSound, vacated, life_in, measured_of, moved_at, move_answer, is_of, changed_where, settled, after_move_at, IsSameBuild};
+ghost use Rattle.cm_hardware.specs.Wiring.{all_states, AreSound, vacated, life_in, measured_of, moved_at};
+ghost use Rattle.cm_hardware.specs.Wiring.{move_answer, is_of, changed_where, settled, after_move_at, IsSameBuild};
 ghost use Rattle.cm_hardware.specs.Holding.{IsHardwareOf, MovesComponent};
 
 use crate::hardware::{Unit, is_available, vacate};
@@ -16,9 +17,9 @@ use hw_component::HwFault;
 use loan_board::Board;
 
 impl ResourceManager {
-    /// Moves the component at this place to a lifecycle state, where there is such a move. Where its interfaces are not available then,
-    /// they become free and Unset; where they were not before and are then, its state interfaces hold what the bodies measure. It takes
-    /// no memory.
+    /// Moves the component at this place to a lifecycle state, where there is such a move. Where its interfaces are not
+    /// available then, they become free and Unset; where they were not before and are then, its state interfaces hold
+    /// what the bodies measure. It takes no memory.
     pub fn move_component(&mut self, place: u32, target: Life) -> Result<(), HwFault>
         requires { place < length self.old.components }
         ensures moved { (s : State) → IsHardwareOf s self.old → MovesComponent s place target self.old self.new result }

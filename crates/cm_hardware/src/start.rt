@@ -6,7 +6,8 @@ ghost use Rattle.cm_model.specs.declared.blanks.Blanks.{Blanks};
 ghost use Rattle.hw_component.specs.Hardware.{CanBeMade};
 ghost use Rattle.cm_hardware.specs.Calls.Boards.{CanOpen};
 ghost use Rattle.cm_hardware.specs.Holding.{IsHardwareOf};
-ghost use Rattle.cm_hardware.specs.Starting.{mounted, places_from, places_of, all_places, is_up, opened, after_measure_of, after_measures_of};
+ghost use Rattle.cm_hardware.specs.Starting.{mounted, places_from, places_of, all_places, is_up};
+ghost use Rattle.cm_hardware.specs.Starting.{opened, after_measure_of, after_measures_of};
 ghost use Rattle.cm_hardware.specs.Wiring.{states_count, commands_count, all_states, AreFree};
 
 use crate::hardware::{Unit, is_available};
@@ -19,8 +20,9 @@ use loan_board::Board;
 use std::alloc::Global;
 
 impl ResourceManager {
-    /// The hardware of a description, at start: the interfaces of inactive and active components are available, and their state
-    /// interfaces hold what the bodies measure. Every other interface is unavailable and Unset, and nobody claims any.
+    /// The hardware of a description, at start: the interfaces of inactive and active components are available, and
+    /// their state interfaces hold what the bodies measure. Every other interface is unavailable and Unset, and nobody
+    /// claims any.
     pub fn make(alloc: Global, checked: &Checked) -> Result<ResourceManager, Memory>
         ensures { IfOk result
             (λ manager. (blanks : Blanks) (sessions : ℕ) → IsHardwareOf (boot checked.now blanks sessions) manager) }
@@ -74,7 +76,8 @@ impl Unit {
 
 // ---- Places
 
-/// The component of each of so many places: the state interfaces of all, then their command interfaces, then references.
+/// The component of each of so many places: the state interfaces of all, then their command interfaces, then
+/// references.
 fn places(alloc: Global, units: &[Unit], count: usize) -> Result<Vec<Option<u32>>, Memory>
     requires { length units.now < 2 ^ 32 }
     ensures { IfOk result (λ places. places.items ≡ all_places units.now count) }
@@ -170,7 +173,8 @@ fn measure_units(units: &mut [Unit], board: &mut Board)
 }
 
 impl Unit {
-    /// Where the component is inactive or active, its state interfaces, the first of which has this place, hold what they measure.
+    /// Where the component is inactive or active, its state interfaces, the first of which has this place, hold what
+    /// they measure.
     fn measure(&mut self, board: &mut Board, at: u32)
         requires { at + states_count self.old ≤ length board.old }
         ensures unit { self.new ≡ self.old }

@@ -1,11 +1,13 @@
 -- What one advance of a session does, and that settling is to advance until none is left.
-use Rattle.std.proofs.Common.{◌≡◌, ℕ, zero, suc, ◌+◌, ◌≤◌, List, [], ◌∷◌, length, Option, Some, None, refl, sym, ◌∙◌, inl, inr, arith}
+use Rattle.std.proofs.Common.{◌≡◌, ℕ, zero, suc, ◌+◌, ◌≤◌, List, [], ◌∷◌, length}
+use Rattle.std.proofs.Common.{Option, Some, None, refl, sym, ◌∙◌, inl, inr, arith}
 use Rattle.std.proofs.lemmas.Option.{same_Some}
 use Rattle.cm_document.proofs.ReadingLemmas.{cases_Option}
 use Rattle.cm_document.specs.declared.call.Call.{Call}
 use Rattle.cm_model.specs.State.{State}
 use Rattle.cm_model.specs.Machine.{step}
-use Rattle.cm_model.specs.Scheduled.{Advanced, with_entry, ticket_in, next_call, after_call, stepped_on, called_on, advance, advances, settle}
+use Rattle.cm_model.specs.Scheduled.{Advanced, with_entry, ticket_in, next_call, after_call}
+use Rattle.cm_model.specs.Scheduled.{stepped_on, called_on, advance, advances, settle}
 use Rattle.cm_model.specs.declared.reply.Reply.{Reply}
 
 -- ---- One advance
@@ -19,16 +21,19 @@ pub record Made (who : ℕ) (a after : Advanced) : Type 0 where
   pub made : after.made ≡ with_entry a.made who call reply
   pub session : after.session ≡ after_call a.session.ticket a.session.lines reply
 
-stepped_on-Made : (who : ℕ) (a after : Advanced) (call : Call) (o : Option (State × Reply)) → next_call a.session.ticket a.session.lines ≡ Some call
+stepped_on-Made : (who : ℕ) (a after : Advanced) (call : Call) (o : Option (State × Reply))
+    → next_call a.session.ticket a.session.lines ≡ Some call
     → step a.state who call ≡ o → stepped_on who a call o ≡ Some after → Made who a after
 stepped_on-Made who a after call None next stepped made = cc
 stepped_on-Made who a after call (Some reached) next stepped made =
     let same = same_Some _ _ made in
     rw (← same) (record { call = call; reply = reached.1; next = next; stepped = stepped; made = refl; session = refl })
 
-called_on-Made : (who : ℕ) (a after : Advanced) (o : Option Call) → next_call a.session.ticket a.session.lines ≡ o → called_on who a o ≡ Some after → Made who a after
+called_on-Made : (who : ℕ) (a after : Advanced) (o : Option Call) → next_call a.session.ticket a.session.lines ≡ o
+    → called_on who a o ≡ Some after → Made who a after
 called_on-Made who a after None next made = cc
-called_on-Made who a after (Some call) next made = stepped_on-Made who a after call (step a.state who call) next refl made
+called_on-Made who a after (Some call) next made =
+    stepped_on-Made who a after call (step a.state who call) next refl made
 
 pub advance-Made : (who : ℕ) (a after : Advanced) → advance who a ≡ Some after → Made who a after
 unfolding advance
@@ -51,7 +56,8 @@ few_tickets (Some ticket) = omega arith
 
 -- a session that makes a call has one entry less left
 after-less : (ticket : Option ℕ) (lines : List Call) (call : Call) (r : Reply) → next_call ticket lines ≡ Some call
-    → suc (entries_left (after_call ticket lines r).ticket (after_call ticket lines r).lines) ≤ entries_left ticket lines
+    → suc (entries_left (after_call ticket lines r).ticket (after_call ticket lines r).lines)
+    ≤ entries_left ticket lines
 after-less (Some ticket) lines call r next = omega arith
 after-less None [] call r next = cc
 after-less None (first ∷ lines) call r next = omega (arith, few_tickets (ticket_in r))
@@ -67,7 +73,8 @@ left_of a = entries_left a.session.ticket a.session.lines
 
 pub advance-less : (who : ℕ) (a after : Advanced) → advance who a ≡ Some after → suc (left_of after) ≤ left_of a
 advance-less who a after made =
-    let one = advance-Made who a after made in rw one.session (after-less a.session.ticket a.session.lines one.call one.reply one.next)
+    let one = advance-Made who a after made in
+    rw one.session (after-less a.session.ticket a.session.lines one.call one.reply one.next)
 
 no_advance : (who : ℕ) (a : Advanced) → left_of a ≤ 0 → advance who a ≡ None
 unfolding advance
@@ -99,7 +106,9 @@ pub settle-next : (who : ℕ) (a after : Advanced) → advance who a ≡ Some af
 unfolding settle
 settle-next who a after some =
     let less = advance-less who a after some in
-    rw (some, advances) (advances-enough _ (length a.session.lines + length a.session.lines) who after (enough_tries after) (omega (arith, less, enough_tries a)))
+    rw (some, advances)
+    (advances-enough _ (length a.session.lines + length a.session.lines) who after (enough_tries after)
+    (omega (arith, less, enough_tries a)))
 
 -- a session that cannot advance is settled
 pub settle-stays : (who : ℕ) (a : Advanced) → advance who a ≡ None → settle who a ≡ a
@@ -110,7 +119,8 @@ advances-done : (k who : ℕ) (a : Advanced) → left_of a ≤ k → advance who
 advances-done zero who a few = no_advance who a few
 advances-done (suc k) who a few = elim (cases_Option (advance who a)) [
   | inl none ↦ rw (none, advances) none
-  | inr (after, some) ↦ rw (some, advances) (advances-done k who after (omega (arith, advance-less who a after some, few)))
+  | inr (after, some) ↦ rw (some, advances)
+      (advances-done k who after (omega (arith, advance-less who a after some, few)))
 ]
 
 -- a session that settled cannot advance
@@ -121,7 +131,8 @@ settled-stands who a = advances-done (suc (length a.session.lines + length a.ses
 -- ---- What holds of all that advances
 
 -- what each advance keeps, settling keeps
-pub settle-keeps : (P : Advanced → Type 0) (who : ℕ) → ((a after : Advanced) → P a → Made who a after → P after) → (a : Advanced) → P a → P (settle who a)
+pub settle-keeps : (P : Advanced → Type 0) (who : ℕ) → ((a after : Advanced) → P a → Made who a after → P after)
+    → (a : Advanced) → P a → P (settle who a)
 unfolding settle
 settle-keeps P who keeps a holds = advances-keeps (suc (length a.session.lines + length a.session.lines)) a holds
   where
@@ -129,5 +140,6 @@ settle-keeps P who keeps a holds = advances-keeps (suc (length a.session.lines +
     advances-keeps zero a holds = holds
     advances-keeps (suc k) a holds = elim (cases_Option (advance who a)) [
       | inl none ↦ rw (none, advances) holds
-      | inr (after, some) ↦ rw (some, advances) (advances-keeps k after (keeps a after holds (advance-Made who a after some)))
+      | inr (after, some) ↦ rw (some, advances)
+          (advances-keeps k after (keeps a after holds (advance-Made who a after some)))
     ]

@@ -1,5 +1,6 @@
 -- Blanks of all kinds together.
-use Rattle.std.proofs.Common.{◌≡◌, ◌≢◌, ℕ, ◌+◌, ◌-◌, ◌<◌, ◌≤◌, List, length, get_or, set, replicate, inl, inr, refl, sym, ap, ◌∙◌, arith}
+use Rattle.std.proofs.Common.{◌≡◌, ◌≢◌, ℕ, ◌+◌, ◌-◌, ◌<◌, ◌≤◌, List, length, get_or}
+use Rattle.std.proofs.Common.{set, replicate, inl, inr, refl, sym, ap, ◌∙◌, arith}
 use Rattle.std.specs.Prelude.{if◌then◌else◌}
 use Rattle.std.proofs.lemmas.Bool.{cases_Bool, eqb-true, eq-eqb, true≢false}
 use Rattle.std.proofs.lemmas.List.{get_or-set_same, get_or-set_other}
@@ -9,7 +10,8 @@ use Rattle.cm_document.specs.declared.description.CtlKind.{CtlKind}
 use Rattle.cm_document.specs.declared.description.CtlKind.TheVariants.{Forward}
 use Rattle.cm_document.specs.declared.description.TheConstants.{NUMBER_OF_KINDS}
 use Rattle.cm_document.proofs.VocabularyLemmas.{place_is_within, same_place}
-use Rattle.cm_model.specs.Blanks.{blanks_of, counted_by, blanks_of_each, total, with_count, with_one_less, with_one_more}
+use Rattle.cm_model.specs.Blanks.{blanks_of, counted_by, blanks_of_each, total}
+use Rattle.cm_model.specs.Blanks.{with_count, with_one_less, with_one_more}
 use Rattle.cm_model.specs.declared.blanks.Blanks.{Blanks}
 
 -- with so many of one kind, the others stay
@@ -38,7 +40,8 @@ count_is count Forward = refl
 count_is count _ = refl
 
 -- as many of each kind are the same blanks
-pub same_counts : (count other : CtlKind → ℕ) → ((kind : CtlKind) → count kind ≡ other kind) → counted_by count ≡ counted_by other
+pub same_counts : (count other : CtlKind → ℕ) → ((kind : CtlKind) → count kind ≡ other kind)
+    → counted_by count ≡ counted_by other
 same_counts count other same = λ i. counted_by (λ kind. same kind i)
 
 -- what was counted is counted again
@@ -55,16 +58,22 @@ each_count n = same_counts (blanks_of (replicate NUMBER_OF_KINDS n)) (λ kind. n
 
 -- a count that is set at the place of a kind
 set_at : (counts : List ℕ) (kind other : CtlKind) (n : ℕ) → length counts ≡ NUMBER_OF_KINDS
-    → blanks_of (set counts (place_of kind) n) other ≡ (if same_controller_kind other kind then n else blanks_of (counted_by (blanks_of counts)) other)
+    → blanks_of (set counts (place_of kind) n) other
+    ≡ (if same_controller_kind other kind then n else blanks_of (counted_by (blanks_of counts)) other)
 set_at counts kind other n long =
     let within : place_of kind < length counts = omega (arith, long, place_is_within kind) in
     elim (cases_Bool (same_controller_kind other kind)) [
       | inl passes ↦
-          let same : place_of other ≡ place_of kind = eqb-true (place_of other) (place_of kind) (sym (same_place other kind) ∙ passes) in
-          rw passes (ap (λ k. get_or (set counts (place_of kind) n) k 0) same ∙ get_or-set_same counts (place_of kind) n 0 within)
+          let same : place_of other ≡ place_of kind =
+          eqb-true (place_of other) (place_of kind) (sym (same_place other kind) ∙ passes) in
+          rw passes (ap (λ k. get_or (set counts (place_of kind) n) k 0) same
+          ∙ get_or-set_same counts (place_of kind) n 0 within)
       | inr fails ↦
-          let apart : place_of other ≢ place_of kind = λ same. true≢false (sym (eq-eqb (place_of other) (place_of kind) same) ∙ sym (same_place other kind) ∙ fails) in
-          rw fails (get_or-set_other counts (place_of kind) (place_of other) n 0 apart ∙ sym (count_is (blanks_of counts) other))
+          let apart : place_of other ≢ place_of kind =
+          λ same. true≢false
+          (sym (eq-eqb (place_of other) (place_of kind) same) ∙ sym (same_place other kind) ∙ fails) in
+          rw fails (get_or-set_other counts (place_of kind) (place_of other) n 0 apart
+          ∙ sym (count_is (blanks_of counts) other))
     ]
 
 -- so many of this kind, the others as they were

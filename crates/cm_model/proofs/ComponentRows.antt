@@ -13,14 +13,17 @@ use Rattle.cm_document.specs.Described.{a_joint, a_component}
 use Rattle.cm_document.specs.declared.description.CompDesc.{CompDesc}
 use Rattle.cm_document.specs.declared.description.CompKind.TheVariants.{System}
 use Rattle.cm_document.specs.declared.life.Life.TheVariants.{Unconfigured, Inactive, Active, Finalized}
-use Rattle.cm_model.specs.Components.{has_move, read_fails, write_fails, is_written, life_after, bodies_at_start, commands_at_start, states_after_read, commands_after_move, command_interfaces, mode_fault, claimed_by, mode_of, bodies_after_step}
+use Rattle.cm_model.specs.Components.{has_move, read_fails, write_fails, is_written, life_after, bodies_at_start}
+use Rattle.cm_model.specs.Components.{commands_at_start, states_after_read, commands_after_move, command_interfaces}
+use Rattle.cm_model.specs.Components.{mode_fault, claimed_by, mode_of, bodies_after_step}
 
--- A system of two joints. The first has two commands, of velocity and of effort, and tells all three states; it begins at 0.5 with the
--- velocity 0.25. The second has one command, of position, and tells its position alone. Reads fail in the cycles 3 and 0, listed so and
--- the first of them twice; writes fail in the cycles 1 and 3.
+-- A system of two joints. The first has two commands, of velocity and of effort, and tells all three states; it begins
+-- at 0.5 with the velocity 0.25. The second has one command, of position, and tells its position alone. Reads fail in
+-- the cycles 3 and 0, listed so and the first of them twice; writes fail in the cycles 1 and 3.
 abbrev arm : CompDesc
 arm = a_component (codes "arm") System Active Finalized (3 ∷ 0 ∷ 3 ∷ []) (1 ∷ 3 ∷ [])
-    (a_joint (codes "j1") (pos 10000000) (pos 1000000) (pos 500000) (pos 500000) (pos 250000) (Velocity ∷ Effort ∷ []) (Effort ∷ Position ∷ Velocity ∷ [])
+    (a_joint (codes "j1") (pos 10000000) (pos 1000000) (pos 500000) (pos 500000) (pos 250000) (Velocity ∷ Effort ∷ [])
+    (Effort ∷ Position ∷ Velocity ∷ [])
     ∷ a_joint (codes "j2") (pos 1000000) (pos 1000000) (pos 0) (pos 0) (pos 0) (Position ∷ []) (Position ∷ []) ∷ [])
 
 abbrev at : ℤ → ℤ → ℤ → BodyState
@@ -32,11 +35,13 @@ at_rest = at (pos 0) (pos 0) (pos 0)
 -- ---- Lifecycle states
 
 -- from finalized there is one move
-moves_from_finalized : map (has_move Finalized) (Unconfigured ∷ Inactive ∷ Active ∷ Finalized ∷ []) ≡ false ∷ false ∷ false ∷ true ∷ []
+moves_from_finalized : map (has_move Finalized) (Unconfigured ∷ Inactive ∷ Active ∷ Finalized ∷ [])
+    ≡ false ∷ false ∷ false ∷ true ∷ []
 moves_from_finalized = refl
 
 -- and from another state each
-moves_from_active : map (has_move Active) (Unconfigured ∷ Inactive ∷ Active ∷ Finalized ∷ []) ≡ true ∷ true ∷ true ∷ true ∷ []
+moves_from_active : map (has_move Active) (Unconfigured ∷ Inactive ∷ Active ∷ Finalized ∷ [])
+    ≡ true ∷ true ∷ true ∷ true ∷ []
 moves_from_active = refl
 
 -- ---- Failures in the cycles 0 to 4
@@ -68,7 +73,8 @@ unfolding cycles
 lives_after = refl
 
 -- one that is unconfigured is neither read nor written, and stays
-unconfigured_stays : map (life_after arm Unconfigured) cycles ≡ Unconfigured ∷ Unconfigured ∷ Unconfigured ∷ Unconfigured ∷ Unconfigured ∷ []
+unconfigured_stays : map (life_after arm Unconfigured) cycles
+    ≡ Unconfigured ∷ Unconfigured ∷ Unconfigured ∷ Unconfigured ∷ Unconfigured ∷ []
 unfolding cycles
 unconfigured_stays = refl
 
@@ -86,7 +92,8 @@ failed_read_leaves : states_after_read arm Active 3 (bodies_at_start arm) held �
 failed_read_leaves = refl
 
 -- one that succeeds sets them, in the order of their lists
-read_sets : states_after_read arm Active 1 (bodies_at_start arm) held ≡ Num (pos 0) ∷ Num (pos 500000) ∷ Num (pos 250000) ∷ Num (pos 0) ∷ []
+read_sets : states_after_read arm Active 1 (bodies_at_start arm) held
+    ≡ Num (pos 0) ∷ Num (pos 500000) ∷ Num (pos 250000) ∷ Num (pos 0) ∷ []
 read_sets = refl
 
 -- a component that becomes unconfigured or finalized holds nothing
@@ -119,20 +126,23 @@ modes = refl
 -- ---- Steps of ten milliseconds
 
 -- an effort of 2 and a position of 0.5, from rest
-driven : bodies_after_step arm true (claimed_by arm (1 ∷ 2 ∷ [])) (Num (pos 9) ∷ Num (pos 2000000) ∷ Num (pos 500000) ∷ []) 10000 (at_rest ∷ at_rest ∷ [])
+driven : bodies_after_step arm true (claimed_by arm (1 ∷ 2 ∷ []))
+    (Num (pos 9) ∷ Num (pos 2000000) ∷ Num (pos 500000) ∷ []) 10000 (at_rest ∷ at_rest ∷ [])
     ≡ at (pos 200) (pos 20000) (pos 2000000) ∷ at (pos 10000) (pos 1000000) (pos 0) ∷ []
 unfolding stepped floor_div within clamped
 driven = refl
 
 -- and the effort again, while nobody claims the other joint
-driven_again : bodies_after_step arm true (claimed_by arm (1 ∷ [])) (Num (pos 9) ∷ Num (pos 2000000) ∷ Num (pos 500000) ∷ []) 10000
+driven_again : bodies_after_step arm true (claimed_by arm (1 ∷ []))
+    (Num (pos 9) ∷ Num (pos 2000000) ∷ Num (pos 500000) ∷ []) 10000
     (at (pos 200) (pos 20000) (pos 2000000) ∷ at (pos 10000) (pos 1000000) (pos 0) ∷ [])
     ≡ at (pos 599) (pos 39900) (pos 2000000) ∷ at (pos 10000) (pos 0) (pos 0) ∷ []
 unfolding stepped floor_div within clamped
 driven_again = refl
 
 -- a component that was not written
-not_written : bodies_after_step arm false (claimed_by arm (1 ∷ 2 ∷ [])) (Num (pos 9) ∷ Num (pos 2000000) ∷ Num (pos 500000) ∷ []) 10000
+not_written : bodies_after_step arm false (claimed_by arm (1 ∷ 2 ∷ []))
+    (Num (pos 9) ∷ Num (pos 2000000) ∷ Num (pos 500000) ∷ []) 10000
     (at (pos 200) (pos 20000) (pos 2000000) ∷ at (pos 10000) (pos 1000000) (pos 0) ∷ [])
     ≡ at (pos 200) (pos 0) (pos 0) ∷ at (pos 10000) (pos 0) (pos 0) ∷ []
 not_written = refl

@@ -10,7 +10,8 @@ use Rattle.iface_names.specs.declared.interface.IfaceName.TheVariants.{Joint, Re
 use Rattle.iface_names.specs.declared.kind.Kind.TheVariants.{Position, Velocity}
 use Rattle.cm_document.specs.Described.{a_controller, a_description}
 use Rattle.cm_document.specs.declared.call.Call.{Call}
-use Rattle.cm_document.specs.declared.call.Call.TheVariants.{Load, Configure, Cleanup, Unload, Rate, Send, ListControllers}
+use Rattle.cm_document.specs.declared.call.Call.TheVariants.{Load, Configure, Cleanup, Unload}
+use Rattle.cm_document.specs.declared.call.Call.TheVariants.{Rate, Send, ListControllers}
 use Rattle.cm_document.specs.declared.call.Mail.{Mail}
 use Rattle.cm_document.specs.declared.call.Mail.TheVariants.{Values, Points}
 use Rattle.cm_document.specs.declared.description.CtlDesc.{CtlDesc}
@@ -96,14 +97,16 @@ two = Values (pos 1 ∷ pos 2 ∷ [])
 
 -- the replies to the five calls on one controller, each in this same state: configure, cleanup, unload, rate, send
 abbrev each : State → List ℕ → List (List ℕ)
-each s name = map (λ call. (answered s call).1) (Configure name ∷ Cleanup name ∷ Unload name ∷ Rate name 25 ∷ Send name one ∷ [])
+each s name =
+    map (λ call. (answered s call).1) (Configure name ∷ Cleanup name ∷ Unload name ∷ Rate name 25 ∷ Send name one ∷ [])
 
 -- ---- A session
 
 -- a controller is loaded, configured, given a rate, configured again, cleaned up and unloaded
 a_session : replies (boot robot stock 1) (
     Load (codes "fwd") ∷ Configure (codes "fwd") ∷ Rate (codes "fwd") 25 ∷ Configure (codes "fwd") ∷ ListControllers
-    ∷ Cleanup (codes "fwd") ∷ ListControllers ∷ Send (codes "fwd") (Values (pos 1000000 ∷ [])) ∷ Unload (codes "fwd") ∷ Unload (codes "fwd") ∷ [])
+    ∷ Cleanup (codes "fwd") ∷ ListControllers ∷ Send (codes "fwd") (Values (pos 1000000 ∷ [])) ∷ Unload (codes "fwd")
+    ∷ Unload (codes "fwd") ∷ [])
     ≡ codes "ok 0" ∷ codes "ok" ∷ codes "ok" ∷ codes "ok" ∷ codes "fwd forward inactive 0 every 4"
     ∷ codes "ok" ∷ codes "fwd forward unconfigured 0" ∷ codes "not_active" ∷ codes "ok" ∷ codes "not_loaded" ∷ []
 unfolding digits step
@@ -111,7 +114,12 @@ a_session = refl
 
 -- a document of one session with these lines
 abbrev document : List Call → Document
-document lines = record { description = robot; script = record { sessions = record { name = codes "a"; lines = lines } ∷ []; schedule = [] } }
+document lines =
+    record {
+      description = robot;
+      script =
+          record { sessions = record { name = codes "a"; lines = lines } ∷ []; schedule = [] };
+    }
 
 -- what is printed of its run
 abbrev printed : List Call → List ℕ
@@ -120,35 +128,45 @@ printed lines = output (document lines) (scheduled (document lines) stock)
 -- the same session as a run
 a_run : printed (
     Load (codes "fwd") ∷ Configure (codes "fwd") ∷ Rate (codes "fwd") 25 ∷ Configure (codes "fwd") ∷ ListControllers
-    ∷ Cleanup (codes "fwd") ∷ ListControllers ∷ Send (codes "fwd") (Values (pos 1000000 ∷ [])) ∷ Unload (codes "fwd") ∷ Unload (codes "fwd") ∷ [])
+    ∷ Cleanup (codes "fwd") ∷ ListControllers ∷ Send (codes "fwd") (Values (pos 1000000 ∷ [])) ∷ Unload (codes "fwd")
+    ∷ Unload (codes "fwd") ∷ [])
     ≡ codes "a load fwd: ok 0\na configure fwd: ok\na rate fwd 25: ok\na configure fwd: ok\na list controllers: fwd forward inactive 0 every 4\na cleanup fwd: ok\na list controllers: fwd forward unconfigured 0\na send fwd 1.000000: not_active\na unload fwd: ok\na unload fwd: not_loaded\nloop close: none\n"
-unfolding digits spelled step cycle after_cycle advance settle settle_all looped with_cycle finish start scheduled output all_concluded
+unfolding digits spelled step cycle after_cycle advance settle settle_all looped with_cycle finish start scheduled
+    output all_concluded
 a_run = refl
 
 -- the rate counts from the next configure on, and outlives a cleanup
 a_rate_counts_later : replies (boot robot stock 1) (
-    Load (codes "fwd") ∷ Configure (codes "fwd") ∷ Rate (codes "fwd") 30 ∷ ListControllers ∷ Configure (codes "fwd") ∷ ListControllers
+    Load (codes "fwd") ∷ Configure (codes "fwd") ∷ Rate (codes "fwd") 30 ∷ ListControllers ∷ Configure (codes "fwd")
+    ∷ ListControllers
     ∷ Cleanup (codes "fwd") ∷ Configure (codes "fwd") ∷ ListControllers ∷ [])
-    ≡ codes "ok 0" ∷ codes "ok" ∷ codes "ok" ∷ codes "fwd forward inactive 0 every 1" ∷ codes "ok" ∷ codes "fwd forward inactive 0 every 3"
+    ≡ codes "ok 0" ∷ codes "ok" ∷ codes "ok" ∷ codes "fwd forward inactive 0 every 1" ∷ codes "ok"
+    ∷ codes "fwd forward inactive 0 every 3"
     ∷ codes "ok" ∷ codes "ok" ∷ codes "fwd forward inactive 0 every 3" ∷ []
 unfolding digits step
 a_rate_counts_later = refl
 
 -- A described rate counts at the first configure. A rate of 0, and one of at least the manager's, is every cycle.
 rates_of_all_sorts : replies (boot robot stock 1) (
-    Load (codes "traj") ∷ Configure (codes "traj") ∷ ListControllers ∷ Rate (codes "traj") 0 ∷ Configure (codes "traj") ∷ ListControllers
-    ∷ Rate (codes "traj") 1000 ∷ Configure (codes "traj") ∷ ListControllers ∷ Rate (codes "traj") 1 ∷ Configure (codes "traj") ∷ ListControllers ∷ [])
-    ≡ codes "ok 0" ∷ codes "ok" ∷ codes "traj trajectory inactive 0 every 3" ∷ codes "ok" ∷ codes "ok" ∷ codes "traj trajectory inactive 0 every 1"
-    ∷ codes "ok" ∷ codes "ok" ∷ codes "traj trajectory inactive 0 every 1" ∷ codes "ok" ∷ codes "ok" ∷ codes "traj trajectory inactive 0 every 100" ∷ []
+    Load (codes "traj") ∷ Configure (codes "traj") ∷ ListControllers ∷ Rate (codes "traj") 0 ∷ Configure (codes "traj")
+    ∷ ListControllers
+    ∷ Rate (codes "traj") 1000 ∷ Configure (codes "traj") ∷ ListControllers ∷ Rate (codes "traj") 1
+    ∷ Configure (codes "traj") ∷ ListControllers ∷ [])
+    ≡ codes "ok 0" ∷ codes "ok" ∷ codes "traj trajectory inactive 0 every 3" ∷ codes "ok" ∷ codes "ok"
+    ∷ codes "traj trajectory inactive 0 every 1"
+    ∷ codes "ok" ∷ codes "ok" ∷ codes "traj trajectory inactive 0 every 1" ∷ codes "ok" ∷ codes "ok"
+    ∷ codes "traj trajectory inactive 0 every 100" ∷ []
 unfolding digits step
 rates_of_all_sorts = refl
 
--- Controllers are loaded in another order than described. The one in the middle moves out; the others stay as they are, and the
--- next load gets a serial that was never used.
+-- Controllers are loaded in another order than described. The one in the middle moves out; the others stay as they are,
+-- and the next load gets a serial that was never used.
 one_of_three_moves_out : replies (boot robot stock 1) (
-    Load (codes "jsb") ∷ Load (codes "fwd") ∷ Load (codes "pid") ∷ Configure (codes "pid") ∷ Unload (codes "fwd") ∷ ListControllers
+    Load (codes "jsb") ∷ Load (codes "fwd") ∷ Load (codes "pid") ∷ Configure (codes "pid") ∷ Unload (codes "fwd")
+    ∷ ListControllers
     ∷ Load (codes "fwd") ∷ ListControllers ∷ [])
-    ≡ codes "ok 0" ∷ codes "ok 1" ∷ codes "ok 2" ∷ codes "ok" ∷ codes "ok" ∷ codes "jsb broadcaster unconfigured 0; pid pid inactive 2 every 1"
+    ≡ codes "ok 0" ∷ codes "ok 1" ∷ codes "ok 2" ∷ codes "ok" ∷ codes "ok"
+    ∷ codes "jsb broadcaster unconfigured 0; pid pid inactive 2 every 1"
     ∷ codes "ok 3" ∷ codes "jsb broadcaster unconfigured 0; pid pid inactive 2 every 1; fwd forward unconfigured 3" ∷ []
 unfolding digits step
 one_of_three_moves_out = refl
@@ -156,19 +174,22 @@ one_of_three_moves_out = refl
 -- ---- The stock
 
 -- a controller that was unloaded brings no blank back
-a_blank_serves_once : replies (boot robot stock 1) (Load (codes "fwd") ∷ Unload (codes "fwd") ∷ Load (codes "fwd") ∷ Unload (codes "fwd") ∷ Load (codes "fwd") ∷ [])
+a_blank_serves_once : replies (boot robot stock 1)
+    (Load (codes "fwd") ∷ Unload (codes "fwd") ∷ Load (codes "fwd") ∷ Unload (codes "fwd") ∷ Load (codes "fwd") ∷ [])
     ≡ codes "ok 0" ∷ codes "ok" ∷ codes "ok 1" ∷ codes "ok" ∷ codes "stock_empty" ∷ []
 unfolding digits step
 a_blank_serves_once = refl
 
 -- so 32 blanks serve 32 loads
-blanks_serve_as_often : replies (boot robot (with_count stock kind.Forward 32) 1) (flat_map (λ n. Load (codes "fwd") ∷ Unload (codes "fwd") ∷ []) (range_with_len 0 32) ++ Load (codes "fwd") ∷ [])
+blanks_serve_as_often : replies (boot robot (with_count stock kind.Forward 32) 1)
+    (flat_map (λ n. Load (codes "fwd") ∷ Unload (codes "fwd") ∷ []) (range_with_len 0 32) ++ Load (codes "fwd") ∷ [])
     ≡ flat_map (λ n. (codes "ok " ++ decimal n) ∷ codes "ok" ∷ []) (range_with_len 0 32) ++ codes "stock_empty" ∷ []
 unfolding digits step
 blanks_serve_as_often = refl
 
 -- A load asks first whether the controller is described, then whether it is loaded, then for a blank.
-what_refuses_a_load : replies (boot robot stock 1) (Load (codes "nosuch") ∷ Load (codes "mk") ∷ Load (codes "mk") ∷ Load (codes "mk2") ∷ Load (codes "nosuch") ∷ [])
+what_refuses_a_load : replies (boot robot stock 1)
+    (Load (codes "nosuch") ∷ Load (codes "mk") ∷ Load (codes "mk") ∷ Load (codes "mk2") ∷ Load (codes "nosuch") ∷ [])
     ≡ codes "not_described" ∷ codes "ok 0" ∷ codes "loaded" ∷ codes "stock_empty" ∷ codes "not_described" ∷ []
 unfolding digits step
 what_refuses_a_load = refl
@@ -212,33 +233,40 @@ fwd_inactive = with (loaded 4 0 (inactive kind.Forward (Forward 1)) ∷ [])
 abbrev fwd_active : State
 fwd_active = with (loaded 4 0 (active kind.Forward (Forward 1) set) ∷ [])
 
-where_it_is_not_loaded : each fwd_active (codes "pid") ≡ codes "not_loaded" ∷ codes "not_loaded" ∷ codes "not_loaded" ∷ codes "not_loaded" ∷ codes "not_loaded" ∷ []
+where_it_is_not_loaded : each fwd_active (codes "pid")
+    ≡ codes "not_loaded" ∷ codes "not_loaded" ∷ codes "not_loaded" ∷ codes "not_loaded" ∷ codes "not_loaded" ∷ []
 unfolding step
 where_it_is_not_loaded = refl
 
-where_it_is_not_described : each fwd_active (codes "nosuch") ≡ codes "not_loaded" ∷ codes "not_loaded" ∷ codes "not_loaded" ∷ codes "not_loaded" ∷ codes "not_loaded" ∷ []
+where_it_is_not_described : each fwd_active (codes "nosuch")
+    ≡ codes "not_loaded" ∷ codes "not_loaded" ∷ codes "not_loaded" ∷ codes "not_loaded" ∷ codes "not_loaded" ∷ []
 unfolding step
 where_it_is_not_described = refl
 
-where_it_is_unconfigured : each fwd_unconfigured (codes "fwd") ≡ codes "ok" ∷ codes "not_inactive" ∷ codes "ok" ∷ codes "ok" ∷ codes "not_active" ∷ []
+where_it_is_unconfigured : each fwd_unconfigured (codes "fwd")
+    ≡ codes "ok" ∷ codes "not_inactive" ∷ codes "ok" ∷ codes "ok" ∷ codes "not_active" ∷ []
 unfolding step
 where_it_is_unconfigured = refl
 
-where_it_is_inactive : each fwd_inactive (codes "fwd") ≡ codes "ok" ∷ codes "ok" ∷ codes "ok" ∷ codes "ok" ∷ codes "not_active" ∷ []
+where_it_is_inactive : each fwd_inactive (codes "fwd")
+    ≡ codes "ok" ∷ codes "ok" ∷ codes "ok" ∷ codes "ok" ∷ codes "not_active" ∷ []
 unfolding step
 where_it_is_inactive = refl
 
-where_it_is_active : each fwd_active (codes "fwd") ≡ codes "active" ∷ codes "not_inactive" ∷ codes "active" ∷ codes "active" ∷ codes "ok" ∷ []
+where_it_is_active : each fwd_active (codes "fwd")
+    ≡ codes "active" ∷ codes "not_inactive" ∷ codes "active" ∷ codes "active" ∷ codes "ok" ∷ []
 unfolding step
 where_it_is_active = refl
 
 -- A mock that refuses is asked only where it is not active. (No history leads to an active one.)
-a_mock_refuses : replies (with (loaded 0 4 (fresh kind.Mock) ∷ [])) (Configure (codes "mk") ∷ ListControllers ∷ Cleanup (codes "mk") ∷ [])
+a_mock_refuses : replies (with (loaded 0 4 (fresh kind.Mock) ∷ []))
+    (Configure (codes "mk") ∷ ListControllers ∷ Cleanup (codes "mk") ∷ [])
     ≡ codes "refused" ∷ codes "mk mock unconfigured 0" ∷ codes "not_inactive" ∷ []
 unfolding digits step
 a_mock_refuses = refl
 
-active_comes_before_refused : each (with (loaded 0 4 (active kind.Mock (Mock 0 true [] []) (run.Set false [])) ∷ [])) (codes "mk")
+active_comes_before_refused : each (with (loaded 0 4 (active kind.Mock (Mock 0 true [] []) (run.Set false [])) ∷ []))
+    (codes "mk")
     ≡ codes "active" ∷ codes "not_inactive" ∷ codes "active" ∷ codes "active" ∷ codes "takes_none" ∷ []
 unfolding step
 active_comes_before_refused = refl
@@ -247,15 +275,20 @@ active_comes_before_refused = refl
 
 -- an active trajectory above a pid
 abbrev chain : State
-chain = with (loaded 0 1 (active kind.Pid gains (integrating true)) ∷ loaded 1 2 (active kind.Trajectory (Trajectory 1) holding) ∷ [])
+chain = with
+    (loaded 0 1 (active kind.Pid gains (integrating true)) ∷ loaded 1 2 (active kind.Trajectory (Trajectory 1) holding)
+    ∷ [])
 
 -- Chained comes before a wrong count.
-mail_for_a_chained_pid : map (λ mail. (answered chain (Send (codes "pid") mail)).1) (one ∷ two ∷ []) ≡ codes "chained" ∷ codes "chained" ∷ []
+mail_for_a_chained_pid : map (λ mail. (answered chain (Send (codes "pid") mail)).1) (one ∷ two ∷ [])
+    ≡ codes "chained" ∷ codes "chained" ∷ []
 unfolding step
 mail_for_a_chained_pid = refl
 
 -- Without the trajectory it takes one value.
-mail_for_a_pid : map (λ mail. (answered (with (loaded 0 1 (active kind.Pid gains (integrating false)) ∷ [])) (Send (codes "pid") mail)).1)
+mail_for_a_pid : map
+    (λ mail. (answered (with (loaded 0 1 (active kind.Pid gains (integrating false)) ∷ []))
+    (Send (codes "pid") mail)).1)
     (one ∷ two ∷ Values [] ∷ Points [] ∷ [])
     ≡ codes "ok" ∷ codes "wrong_count" ∷ codes "wrong_count" ∷ codes "wrong_count" ∷ []
 unfolding step
@@ -263,24 +296,31 @@ mail_for_a_pid = refl
 
 -- The trajectory takes points alone, each with a value for its one claim.
 mail_for_a_trajectory : map (λ mail. (answered chain (Send (codes "traj") mail)).1)
-    (one ∷ Points (record { at_us = 20000; values = pos 100000 ∷ [] } ∷ []) ∷ Points (record { at_us = 20000; values = pos 1 ∷ [] } ∷ record { at_us = 30000; values = [] } ∷ []) ∷ [])
+    (one ∷ Points (record { at_us = 20000; values = pos 100000 ∷ [] } ∷ [])
+    ∷ Points (record { at_us = 20000; values = pos 1 ∷ [] } ∷ record { at_us = 30000; values = [] } ∷ []) ∷ [])
     ≡ codes "wrong_count" ∷ codes "ok" ∷ codes "wrong_count" ∷ []
 unfolding step
 mail_for_a_trajectory = refl
 
 -- a broadcaster, and a mock without claims
 abbrev no_takers : State
-no_takers = with (loaded 0 3 (active kind.Broadcaster (Broadcaster 2) publishing) ∷ loaded 1 5 (active kind.Mock (Mock 0 false [] []) (run.Set false [])) ∷ [])
+no_takers = with
+    (loaded 0 3 (active kind.Broadcaster (Broadcaster 2) publishing)
+    ∷ loaded 1 5 (active kind.Mock (Mock 0 false [] []) (run.Set false [])) ∷ [])
 
 -- That none is taken comes before a wrong count.
-mail_for_those_that_take_none : map (λ mail. (answered no_takers (Send (codes "jsb") mail)).1) (one ∷ two ∷ Points [] ∷ [])
+mail_for_those_that_take_none : map (λ mail. (answered no_takers (Send (codes "jsb") mail)).1)
+    (one ∷ two ∷ Points [] ∷ [])
     ++ map (λ mail. (answered no_takers (Send (codes "mk2") mail)).1) (one ∷ Values [] ∷ [])
     ≡ codes "takes_none" ∷ codes "takes_none" ∷ codes "takes_none" ∷ codes "takes_none" ∷ codes "takes_none" ∷ []
 unfolding step
 mail_for_those_that_take_none = refl
 
 -- That it is not active comes before all that its parameters say of mail.
-not_active_comes_first : map (λ call. (answered (with (loaded 0 3 (inactive kind.Broadcaster (Broadcaster 2)) ∷ loaded 1 0 (inactive kind.Forward (Forward 1)) ∷ [])) call).1)
+not_active_comes_first : map
+    (λ call. (answered
+    (with (loaded 0 3 (inactive kind.Broadcaster (Broadcaster 2)) ∷ loaded 1 0 (inactive kind.Forward (Forward 1))
+    ∷ [])) call).1)
     (Send (codes "jsb") one ∷ Send (codes "fwd") two ∷ Send (codes "fwd") (Points []) ∷ [])
     ≡ codes "not_active" ∷ codes "not_active" ∷ codes "not_active" ∷ []
 unfolding step
@@ -289,19 +329,22 @@ not_active_comes_first = refl
 -- ---- What is left
 
 -- newer mail replaces what waits
-the_last_mail_waits : (after fwd_active (Send (codes "fwd") (Values (pos 1 ∷ [])) ∷ Send (codes "fwd") one ∷ Send (codes "fwd") two ∷ [])).loaded
+the_last_mail_waits : (after fwd_active
+    (Send (codes "fwd") (Values (pos 1 ∷ [])) ∷ Send (codes "fwd") one ∷ Send (codes "fwd") two ∷ [])).loaded
     ≡ record (loaded 4 0 (active kind.Forward (Forward 1) set)) { mail = Some one } ∷ []
 unfolding step
 the_last_mail_waits = refl
 
 -- a configure of an inactive controller replaces its parameters
-parameters_are_replaced : (after (with (loaded 4 0 (inactive kind.Forward (Forward 7)) ∷ [])) (Configure (codes "fwd") ∷ [])).loaded
+parameters_are_replaced : (after (with (loaded 4 0 (inactive kind.Forward (Forward 7)) ∷ []))
+    (Configure (codes "fwd") ∷ [])).loaded
     ≡ record (loaded 4 0 (inactive kind.Forward (Forward 1))) { divisor = Some 1 } ∷ []
 unfolding step
 parameters_are_replaced = refl
 
 -- a refused one leaves those that it has
-a_refusal_leaves_all : after (with (loaded 0 4 (inactive kind.Mock (Mock 3 false [] [])) ∷ [])) (Configure (codes "mk") ∷ [])
+a_refusal_leaves_all : after (with (loaded 0 4 (inactive kind.Mock (Mock 3 false [] [])) ∷ []))
+    (Configure (codes "mk") ∷ [])
     ≡ with (loaded 0 4 (inactive kind.Mock (Mock 3 false [] [])) ∷ [])
 unfolding step
 a_refusal_leaves_all = refl

@@ -12,13 +12,17 @@ use Rattle.cm_model.proofs.KindLemmas.{mail_keeps, update_gives}
 
 -- ---- A step
 
-step_keeps_chained : (ctl : CtlData) (params : Option Params) (part : Option RunData) (tick : Tick) (states : List ℤ) (refs : List Value)
-    → ctl.run ≡ part → option_map runs_chained (step_with ctl params part tick states refs).after.run ≡ option_map runs_chained ctl.run
-step_keeps_chained ctl (Some params) (Some part) tick states refs is = rw is (ap Some (update_gives params part tick states refs).sort.chained)
+step_keeps_chained : (ctl : CtlData) (params : Option Params) (part : Option RunData) (tick : Tick) (states : List ℤ)
+    (refs : List Value)
+    → ctl.run ≡ part
+    → option_map runs_chained (step_with ctl params part tick states refs).after.run ≡ option_map runs_chained ctl.run
+step_keeps_chained ctl (Some params) (Some part) tick states refs is =
+    rw is (ap Some (update_gives params part tick states refs).sort.chained)
 step_keeps_chained ctl None part tick states refs is = refl
 step_keeps_chained ctl (Some params) None tick states refs is = refl
 
-mailed_keeps_chained : (ctl : CtlData) (part : Option RunData) (mail : Mail) → ctl.run ≡ part → option_map runs_chained (mailed ctl mail).run ≡ option_map runs_chained ctl.run
+mailed_keeps_chained : (ctl : CtlData) (part : Option RunData) (mail : Mail) → ctl.run ≡ part
+    → option_map runs_chained (mailed ctl mail).run ≡ option_map runs_chained ctl.run
 mailed_keeps_chained ctl None mail is = rw is refl
 mailed_keeps_chained ctl (Some part) mail is = rw is (ap Some (mail_keeps part mail).chained)
 
@@ -26,19 +30,22 @@ pub ctl_step_keeps_chained : (ctl : CtlData) (tick : Tick) (states : List ℤ) (
     → option_map runs_chained (ctl_step ctl tick states refs mail).after.run ≡ option_map runs_chained ctl.run
 ctl_step_keeps_chained ctl tick states refs None = step_keeps_chained ctl ctl.params ctl.run tick states refs refl
 ctl_step_keeps_chained ctl tick states refs (Some mail) =
-    step_keeps_chained (mailed ctl mail) (mailed ctl mail).params (mailed ctl mail).run tick states refs refl ∙ mailed_keeps_chained ctl ctl.run mail refl
+    step_keeps_chained (mailed ctl mail) (mailed ctl mail).params (mailed ctl mail).run tick states refs refl
+    ∙ mailed_keeps_chained ctl ctl.run mail refl
 
 -- ---- Parameters
 
 -- a step keeps the parameters,
-pub step_keeps_params : (ctl : CtlData) (params : Option Params) (r : Option RunData) (tick : Tick) (states : List ℤ) (refs : List Value)
+pub step_keeps_params : (ctl : CtlData) (params : Option Params) (r : Option RunData) (tick : Tick) (states : List ℤ)
+    (refs : List Value)
     → (step_with ctl params r tick states refs).after.params ≡ ctl.params
 step_keeps_params ctl (Some params) (Some r) tick states refs = refl
 step_keeps_params ctl None r tick states refs = refl
 step_keeps_params ctl (Some params) None tick states refs = refl
 
 -- and so does an update
-pub update_step_keeps_params : (ctl : CtlData) (tick : Tick) (states : List ℤ) (refs : List Value) → (update_step ctl tick states refs).after.params ≡ ctl.params
+pub update_step_keeps_params : (ctl : CtlData) (tick : Tick) (states : List ℤ) (refs : List Value)
+    → (update_step ctl tick states refs).after.params ≡ ctl.params
 update_step_keeps_params ctl tick states refs = step_keeps_params ctl ctl.params ctl.run tick states refs
 
 pub update_step_keeps_chained : (ctl : CtlData) (tick : Tick) (states : List ℤ) (refs : List Value)

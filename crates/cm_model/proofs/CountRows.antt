@@ -12,11 +12,15 @@ use Rattle.cm_model.specs.declared.reply.Reply.TheVariants as reply
 by : ℕ → Call → Reply → Entry
 by who call r = record { who = who; call = call; reply = r }
 
--- Two cycles and a close: the first begin decides two requests, the second none, and the close one. A Told tells of no decision.
+-- Two cycles and a close: the first begin decides two requests, the second none, and the close one. A Told tells of no
+-- decision.
 two_cycles : List Entry
 two_cycles =
     by 0 (Load (codes "fwd")) (reply.Serial 0)
-    ∷ by 1 (Begin 0) (reply.Decisions (record { ticket = Some 0; outcome = outcome.Done [] } ∷ record { ticket = Some 1; outcome = outcome.Done [] } ∷ []))
+    ∷ by 1 (Begin 0)
+    (reply.Decisions
+    (record { ticket = Some 0; outcome = outcome.Done [] } ∷ record { ticket = Some 1; outcome = outcome.Done [] }
+    ∷ []))
     ∷ by 1 (End 0) reply.Done
     ∷ by 0 (Told 1) (reply.Outcome (outcome.Done []))
     ∷ by 1 (Begin 1) (reply.Decisions [])

@@ -16,7 +16,8 @@ loop_only s who b less enabled =
     cc
 
 -- what a session can make is a console call
-pub enabled-IsConsole : (s : State) (who : ℕ) (call : Call) → who < s.sessions → is_enabled s who call ≡ true → IsConsole call
+pub enabled-IsConsole : (s : State) (who : ℕ) (call : Call) → who < s.sessions → is_enabled s who call ≡ true
+    → IsConsole call
 enabled-IsConsole s who (Begin cycle) less enabled = loop_only s who (can_begin s cycle) less enabled
 enabled-IsConsole s who (End cycle) less enabled = loop_only s who (can_end s cycle) less enabled
 enabled-IsConsole s who Close less enabled = loop_only s who (can_close s) less enabled

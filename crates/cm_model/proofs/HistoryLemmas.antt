@@ -6,7 +6,8 @@ use Rattle.std.proofs.lemmas.Bool.{cases_Bool}
 use Rattle.std.proofs.Math.Bool.{or-true}
 use Rattle.cm_document.proofs.ReadingLemmas.{cases_Option}
 use Rattle.cm_document.specs.declared.call.Call.{Call}
-use Rattle.cm_document.specs.declared.call.Call.TheVariants.{Load, Configure, Cleanup, Unload, Rate, Send, Switch, Hardware, Begin, Close}
+use Rattle.cm_document.specs.declared.call.Call.TheVariants.{Load, Configure, Cleanup, Unload, Rate}
+use Rattle.cm_document.specs.declared.call.Call.TheVariants.{Send, Switch, Hardware, Begin, Close}
 use Rattle.cm_document.specs.declared.document.Document.{Document}
 use Rattle.cm_model.specs.Commit.{commit}
 use Rattle.cm_model.specs.Cycle.{after_cycle}
@@ -25,7 +26,8 @@ pub description_stays : (made : List Entry) (s : State) → (state_after s made)
 description_stays [] s = refl
 description_stays (e ∷ made) s = elim (cases_Option (step s e.who e.call)) [
   | inl none ↦ rw (none, state_after) refl
-  | inr (next, some) ↦ rw (some, state_after) (description_stays made next.0 ∙ (step-Stands s e.who e.call next some).description)
+  | inr (next, some) ↦ rw (some, state_after)
+      (description_stays made next.0 ∙ (step-Stands s e.who e.call next some).description)
 ]
 
 -- nor the number of sessions
@@ -33,7 +35,8 @@ pub sessions_stay : (made : List Entry) (s : State) → (state_after s made).ses
 sessions_stay [] s = refl
 sessions_stay (e ∷ made) s = elim (cases_Option (step s e.who e.call)) [
   | inl none ↦ rw (none, state_after) refl
-  | inr (next, some) ↦ rw (some, state_after) (sessions_stay made next.0 ∙ (step-Stands s e.who e.call next some).sessions)
+  | inr (next, some) ↦ rw (some, state_after)
+      (sessions_stay made next.0 ∙ (step-Stands s e.who e.call next some).sessions)
 ]
 
 -- ---- A closed loop stays closed
@@ -47,13 +50,16 @@ effect-closed s (Unload name) r closed = (effect-SameLoop s (Unload name) r tt).
 effect-closed s (Rate name hz) r closed = (effect-SameLoop s (Rate name hz) r tt).closed ∙ closed
 effect-closed s (Send name mail) r closed = (effect-SameLoop s (Send name mail) r tt).closed ∙ closed
 effect-closed s (Switch asked) r closed = (effect-SameLoop s (Switch asked) r tt).closed ∙ closed
-effect-closed s (Hardware component target) r closed = (effect-SameLoop s (Hardware component target) r tt).closed ∙ closed
+effect-closed s (Hardware component target) r closed =
+    (effect-SameLoop s (Hardware component target) r tt).closed ∙ closed
 effect-closed s (Begin cycle) r closed = (boundary-SameLoop s).closed ∙ closed
 effect-closed s Close r closed = refl
 effect-closed s _ r closed = closed
 
-step-closed : (s : State) (who : ℕ) (call : Call) (q : State × Reply) → step s who call ≡ Some q → s.closed ≡ true → q.0.closed ≡ true
-step-closed s who call q stepped closed = let is = step-IsStep s who call q stepped in rw is.next (effect-closed s call q.1 closed)
+step-closed : (s : State) (who : ℕ) (call : Call) (q : State × Reply) → step s who call ≡ Some q → s.closed ≡ true
+    → q.0.closed ≡ true
+step-closed s who call q stepped closed =
+    let is = step-IsStep s who call q stepped in rw is.next (effect-closed s call q.1 closed)
 
 after-closed : (made : List Entry) (s : State) → s.closed ≡ true → (state_after s made).closed ≡ true
 after-closed [] s closed = closed
@@ -78,7 +84,8 @@ close-closes s Close r close = refl
 close-closes s _ r close = let no : false ≡ true = close in cc
 
 -- a legal history with a close leaves the loop closed
-closes : (made : List Entry) (s : State) → LegalFrom s made → has_close (calls_of made) ≡ true → (state_after s made).closed ≡ true
+closes : (made : List Entry) (s : State) → LegalFrom s made → has_close (calls_of made) ≡ true
+    → (state_after s made).closed ≡ true
 closes [] s legal close = let no : false ≡ true = close in cc
 closes (e ∷ made) s legal close =
     let first = step_of (step s e.who e.call) e.reply (λ m. LegalFrom m made) legal in
@@ -99,17 +106,22 @@ or_same : (b x y : Bool) → (x ≡ true → y ≡ true) → (b || x) ≡ true �
 or_same true x y more close = refl
 or_same false x y more close = more close
 
-kept_or_not : (kept : Bool) (e : Entry) (some all : List Entry) → (has_close (calls_of some) ≡ true → has_close (calls_of all) ≡ true)
+kept_or_not : (kept : Bool) (e : Entry) (some all : List Entry)
+    → (has_close (calls_of some) ≡ true → has_close (calls_of all) ≡ true)
     → has_close (calls_of (cond kept (e ∷ some) some)) ≡ true → has_close (calls_of (e ∷ all)) ≡ true
-kept_or_not true e some all more close = or_same (is_close e.call) (has_close (calls_of some)) (has_close (calls_of all)) more close
+kept_or_not true e some all more close =
+    or_same (is_close e.call) (has_close (calls_of some)) (has_close (calls_of all)) more close
 kept_or_not false e some all more close = rw (more close) (or-true (is_close e.call))
 
 -- a close of one caller is a close of all
-one_of_all : (who : ℕ) (made : List Entry) → has_close (calls_of (entries_by who made)) ≡ true → has_close (calls_of made) ≡ true
+one_of_all : (who : ℕ) (made : List Entry) → has_close (calls_of (entries_by who made)) ≡ true
+    → has_close (calls_of made) ≡ true
 one_of_all who [] close = close
 one_of_all who (e ∷ made) close = kept_or_not (e.who == who) e (entries_by who made) made (one_of_all who made) close
 
 -- a whole history that is legal leaves the loop closed
-pub whole-closed : (d : Document) (made : List Entry) (s : State) → LegalFrom s made → IsWhole d made → (state_after s made).closed ≡ true
+pub whole-closed : (d : Document) (made : List Entry) (s : State) → LegalFrom s made → IsWhole d made
+    → (state_after s made).closed ≡ true
 whole-closed d made s legal whole =
-    closes made s legal (one_of_all (length d.script.sessions) made (rw whole.cycles (last_close (cycle_calls d.description.cycles))))
+    closes made s legal
+    (one_of_all (length d.script.sessions) made (rw whole.cycles (last_close (cycle_calls d.description.cycles))))

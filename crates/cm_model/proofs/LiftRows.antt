@@ -8,7 +8,8 @@ use Rattle.fixed_num.specs.Bodies.{stepped}
 use Rattle.fixed_num.specs.Micro.{clamped}
 use Rattle.fixed_num.specs.Text.{spelled}
 use Rattle.cm_document.specs.declared.call.Call.{Call}
-use Rattle.cm_document.specs.declared.call.Call.TheVariants.{Load, Configure, Unload, Send, Hardware, ListControllers, ListInterfaces, ListComponents, Begin, End}
+use Rattle.cm_document.specs.declared.call.Call.TheVariants.{Load, Configure, Unload, Send, Hardware, ListControllers}
+use Rattle.cm_document.specs.declared.call.Call.TheVariants.{ListInterfaces, ListComponents, Begin, End}
 use Rattle.cm_document.specs.declared.call.Mail.TheVariants.{Values, Points}
 use Rattle.cm_document.specs.declared.life.Life.TheVariants.{Unconfigured, Inactive, Active, Finalized}
 use Rattle.cm_model.proofs.WorkedCalls.{strictly}

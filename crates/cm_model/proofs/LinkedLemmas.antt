@@ -8,7 +8,8 @@ use Rattle.iface_names.specs.Sameness.{same_interface-Decides}
 use Rattle.iface_names.specs.declared.interface.IfaceName.{IfaceName}
 use Rattle.cm_document.specs.Described.{states_of}
 use Rattle.cm_document.specs.Links.{is_among}
-use Rattle.cm_document.specs.Valid.{interfaces_apart, names_apart, links_apart, claimable, all_among, links_exist, IsValid}
+use Rattle.cm_document.specs.Valid.{interfaces_apart, names_apart, links_apart}
+use Rattle.cm_document.specs.Valid.{claimable, all_among, links_exist, IsValid}
 use Rattle.cm_document.specs.declared.description.CtlDesc.{CtlDesc}
 use Rattle.cm_document.specs.declared.description.Description.{Description}
 use Rattle.cm_document.specs.declared.faults.CheckFault.TheVariants.{NoInterface}
@@ -30,8 +31,10 @@ pub record AreLinked (d : Description) (c : CtlDesc) : Type 0 where
 each_among : (there : List IfaceName) (name : List ℕ) (names : List IfaceName) → all_among there name names ≡ Ok tt
     → AllByRecursion (λ each. is_among each there ≡ true) names
 each_among there name names e =
-    all_so (λ each. not (is_among each there) ≡ false) (λ each. is_among each there ≡ true) (λ each found. not-false (is_among each there) found) names
-    (none_found (λ each. not (is_among each there)) names (none_told (λ each. NoInterface name each) (find (λ each. not (is_among each there)) names) e))
+    all_so (λ each. not (is_among each there) ≡ false) (λ each. is_among each there ≡ true)
+    (λ each found. not-false (is_among each there) found) names
+    (none_found (λ each. not (is_among each there)) names
+    (none_told (λ each. NoInterface name each) (find (λ each. not (is_among each there)) names) e))
 
 -- the links of one controller that exist
 record Exist (commands states : List IfaceName) (c : CtlDesc) : Type 0 where
@@ -61,7 +64,11 @@ differ_at [] e p = record { claims = tt; reads = tt }
 differ_at (c ∷ cs) e zero =
     let claims = bind_Ok (interfaces_apart c.claims) _ tt e in
     let reads = bind_Ok (interfaces_apart c.reads) _ tt claims.2 in
-    record { claims = interfaces_apart-IsDistinct c.claims claims.1; reads = interfaces_apart-IsDistinct c.reads reads.1 }
+    record {
+      claims = interfaces_apart-IsDistinct c.claims claims.1;
+      reads =
+          interfaces_apart-IsDistinct c.reads reads.1;
+    }
 differ_at (c ∷ cs) e (suc p) =
     let claims = bind_Ok (interfaces_apart c.claims) _ tt e in
     let reads = bind_Ok (interfaces_apart c.reads) _ tt claims.2 in
@@ -77,7 +84,8 @@ links_of_valid d ok p =
     record { claimed = exist.claimed; read = exist.read; claims_differ = differ.claims; reads_differ = differ.reads }
 
 -- what holds of all these holds of each that is among them
-pub among_all : (P : IfaceName → Type 0) (names : List IfaceName) → AllByRecursion P names → (name : IfaceName) → is_among name names ≡ true → P name
+pub among_all : (P : IfaceName → Type 0) (names : List IfaceName) → AllByRecursion P names → (name : IfaceName)
+    → is_among name names ≡ true → P name
 among_all P [] all name among = absurd (true≢false (sym among))
 among_all P (x ∷ xs) all name among =
     elim (or_cases (same_interface name x) (is_among name xs) among) [

@@ -1,5 +1,7 @@
--- Worked rows of what a begin decides: moments of two states and a reply, written down by hand, that are right, and others that are not.
-use Rattle.std.proofs.Common.{◌≡◌, ℕ, zero, suc, ◌<◌, Bool, true, false, List, [], ◌∷◌, length, get_or, map, inl, inr, pos, Option, Some, None, refl, sym, ap, subst, ◌∙◌, true≢false, arith}
+-- Worked rows of what a begin decides: moments of two states and a reply, written down by hand, that are right, and
+-- others that are not.
+use Rattle.std.proofs.Common.{◌≡◌, ℕ, zero, suc, ◌<◌, Bool, true, false, List, [], ◌∷◌, length, get_or, map}
+use Rattle.std.proofs.Common.{inl, inr, pos, Option, Some, None, refl, sym, ap, subst, ◌∙◌, true≢false, arith}
 use Rattle.std.specs.Prelude.{codes, ◌==◌, ◌&&◌, is_some}
 use Rattle.std.specs.List.{list_any}
 use Rattle.std.proofs.lemmas.Option.{same_Some}
@@ -13,7 +15,8 @@ use Rattle.cm_document.specs.declared.life.Life.{Life}
 use Rattle.cm_document.specs.declared.life.Life.TheVariants.{Inactive, Active}
 use Rattle.cm_model.proofs.Worked.{j1_position, runs, rests, with_running}
 use Rattle.cm_model.specs.Boundary.{life_at}
-use Rattle.cm_model.specs.Deciding.{AreRelated, IsSwitched, is_let_go, IsLetGo, asked_set, on_both, without_mail, apart_from_mail}
+use Rattle.cm_model.specs.Deciding.{AreRelated, IsSwitched, is_let_go, IsLetGo}
+use Rattle.cm_model.specs.Deciding.{asked_set, on_both, without_mail, apart_from_mail}
 use Rattle.cm_model.specs.Order.{Places}
 use Rattle.cm_model.specs.Sound.{Moment, AreStoodIn, DecidesFrom, DecidesRightly}
 use Rattle.cm_model.specs.State.{State, Loaded, is_active, active}
@@ -43,7 +46,13 @@ told loaded what became = record (asked loaded what) { outcomes = became ∷ [] 
 -- a begin that tells this outcome and leaves this state
 abbrev begin_of : State → Outcome → State → Moment
 begin_of before became after =
-    record { before = before; call = Begin 0; reply = reply.Decisions (record { ticket = Some 0; outcome = became } ∷ []); after = record after { aloft = true } }
+    record {
+      before = before;
+      call = Begin 0;
+      reply =
+          reply.Decisions (record { ticket = Some 0; outcome = became } ∷ []);
+      after = record after { aloft = true };
+    }
 
 -- whether it is right, where nobody is to stand in
 abbrev IsRight : Moment → Type 0
@@ -79,7 +88,8 @@ same_active : (s t : State) → apart_from_mail t ≡ apart_from_mail s → (p :
 same_active s t same p = sym (apart_active s p) ∙ ap (λ (u : State). active u p) (sym same) ∙ apart_active t p
 
 -- the controllers that the state between has are those after it, but for mail
-same_loaded : (s t : State) → apart_from_mail t ≡ apart_from_mail s → map without_mail s.loaded ≡ map without_mail t.loaded
+same_loaded : (s t : State) → apart_from_mail t ≡ apart_from_mail s
+    → map without_mail s.loaded ≡ map without_mail t.loaded
 same_loaded s t same = ap (λ (u : State). u.loaded) (sym same)
 
 -- what one controller is related to
@@ -88,7 +98,8 @@ record IsRelated (R : Loaded → Loaded → Type 0) (l : Loaded) (ls : List Load
   alone : ls ≡ new ∷ []
   related : R l new
 
-related_one : (R : Loaded → Loaded → Type 0) (l : Loaded) (ls : List Loaded) → AreRelated R (l ∷ []) ls → IsRelated R l ls
+related_one : (R : Loaded → Loaded → Type 0) (l : Loaded) (ls : List Loaded) → AreRelated R (l ∷ []) ls
+    → IsRelated R l ls
 related_one R l [] holds = absurd holds
 related_one R l (new ∷ []) holds = record { new = new; alone = refl; related = holds.0 }
 related_one R l (new ∷ other ∷ others) holds = absurd holds.1
@@ -104,22 +115,31 @@ has_last (Some (run.Pid chained set integral last)) = is_some last
 has_last _ = false
 
 -- so it is right as a whole
-right_as_a_whole : (moment : Moment) → moment.before.fallbacks ≡ [] → moment.call ≡ Begin 0 → IsRight moment → DecidesRightly moment moment.call
+right_as_a_whole : (moment : Moment) → moment.before.fallbacks ≡ [] → moment.call ≡ Begin 0 → IsRight moment
+    → DecidesRightly moment moment.call
 right_as_a_whole moment nobody begins right =
-    subst (DecidesRightly moment) (sym begins)
-    (moment.before, subst (λ (names : List (List ℕ)). AreStoodIn moment.before names moment.before) (sym nobody) refl, right)
+    subst (DecidesRightly moment) (sym begins) (
+      moment.before,
+      subst (λ (names : List (List ℕ)). AreStoodIn moment.before names moment.before) (sym nobody) refl,
+      right,
+    )
 
 -- ---- A switch that is done
 
 -- an interface that is not let go holds what it held
-held : (s : State) (ceased : Places) (v : InterfaceValue) → is_let_go s.description.controllers ceased v.interface ≡ false → IsLetGo s ceased v v
+held : (s : State) (ceased : Places) (v : InterfaceValue)
+    → is_let_go s.description.controllers ceased v.interface ≡ false → IsLetGo s ceased v v
 held s ceased v none = record { emptied = λ gone. absurd (true≢false (sym gone ∙ none)); held = λ kept. refl }
 
 -- the forward comes
-forward_set : (p : ℕ) → active (told (runs 0 0 false ∷ []) forward_on (outcome.Done [])) p ≡ asked_set (asked (rests 0 0 ∷ []) forward_on) forward_request p
+forward_set : (p : ℕ)
+    → active (told (runs 0 0 false ∷ []) forward_on (outcome.Done [])) p
+    ≡ asked_set (asked (rests 0 0 ∷ []) forward_on) forward_request p
 forward_set p = refl
 
-forward_comes : IsRight (begin_of (asked (rests 0 0 ∷ []) forward_on) (outcome.Done []) (told (runs 0 0 false ∷ []) forward_on (outcome.Done [])))
+forward_comes : IsRight
+    (begin_of (asked (rests 0 0 ∷ []) forward_on) (outcome.Done [])
+    (told (runs 0 0 false ∷ []) forward_on (outcome.Done [])))
 forward_comes = (
   told (runs 0 0 false ∷ []) forward_on (outcome.Done []),
   record {
@@ -139,7 +159,10 @@ forward_comes = (
           },
           tt,
         );
-        values = (held _ _ _ refl, (held _ _ _ refl, (held _ _ _ refl, (held _ _ _ refl, (held _ _ _ refl, (held _ _ _ refl, tt))))));
+        values = (
+          held _ _ _ refl,
+          (held _ _ _ refl, (held _ _ _ refl, (held _ _ _ refl, (held _ _ _ refl, (held _ _ _ refl, tt))))),
+        );
         lives = refl;
       },
     );
@@ -163,7 +186,8 @@ leaver_stays (next, step, last) = true≢false (sym (same_active next not_left l
 
 -- one that is named on both lists goes on as it was
 abbrev steered : Loaded
-steered = record (runs 0 1 false) { ctl = record ((runs 0 1 false).ctl) { run = Some (run.Pid false Unset (pos 0) (Some (pos 7))) } }
+steered = record (runs 0 1 false)
+    { ctl = record ((runs 0 1 false).ctl) { run = Some (run.Pid false Unset (pos 0) (Some (pos 7))) } }
 
 abbrev not_restarted : State
 not_restarted = record (told (steered ∷ []) pid_again (outcome.Done [])) { aloft = true }
@@ -175,10 +199,12 @@ PidSwitched l new =
 
 restart_without_effect : IsRight (begin_of (asked (steered ∷ []) pid_again) (outcome.Done []) not_restarted) → ⊥
 restart_without_effect (next, step, last) =
-    let one : IsRelated PidSwitched steered next.loaded = related_one PidSwitched steered next.loaded step.rightly.1.controllers in
+    let one : IsRelated PidSwitched steered next.loaded =
+    related_one PidSwitched steered next.loaded step.rightly.1.controllers in
     let anew = one.related.restarts refl refl refl in
     let as_was : first_run (map without_mail (one.new ∷ [])) ≡ first_run (map without_mail (steered ∷ [])) =
-    ap (λ (ls : List Loaded). first_run (map without_mail ls)) (sym one.alone) ∙ ap first_run (same_loaded next not_restarted last) in
+    ap (λ (ls : List Loaded). first_run (map without_mail ls)) (sym one.alone)
+    ∙ ap first_run (same_loaded next not_restarted last) in
     true≢false (ap has_last (sym as_was ∙ anew.run))
 
 -- what is told as done is not all that changes: another load is counted
@@ -187,27 +213,40 @@ one_load_more = record (told (runs 0 0 false ∷ []) forward_on (outcome.Done []
 
 smuggled : IsRight (begin_of (asked (rests 0 0 ∷ []) forward_on) (outcome.Done []) one_load_more) → ⊥
 smuggled (next, step, last) =
-    let more : ◌≡◌ {A = ℕ} 1 0 = ap (λ (u : State). u.loads) last ∙ ap (λ (u : State). u.loads) step.same in omega (arith, more)
+    let more : ◌≡◌ {A = ℕ} 1 0 = ap (λ (u : State). u.loads) last ∙ ap (λ (u : State). u.loads) step.same in
+    omega (arith, more)
 
 -- one waits, and none is told of
-none_told : IsRight (record { before = asked (rests 0 0 ∷ []) forward_on; call = Begin 0; reply = reply.Decisions []; after = asked (rests 0 0 ∷ []) forward_on }) → ⊥
+none_told : IsRight
+    (record {
+      before = asked (rests 0 0 ∷ []) forward_on;
+      call = Begin 0;
+      reply = reply.Decisions [];
+      after =
+          asked (rests 0 0 ∷ []) forward_on;
+    }) → ⊥
 none_told holds = holds
 
 -- ---- A switch that is refused
 
 -- it is told as refused, and the controller runs
 abbrev switched_all_the_same : State
-switched_all_the_same = record (told (runs 0 0 false ∷ []) forward_on (outcome.Refused (codes "fwd") cause.NotReady)) { aloft = true }
+switched_all_the_same =
+    record (told (runs 0 0 false ∷ []) forward_on (outcome.Refused (codes "fwd") cause.NotReady)) { aloft = true }
 
-refused_and_done : IsRight (begin_of (asked (rests 0 0 ∷ []) forward_on) (outcome.Refused (codes "fwd") cause.NotReady) switched_all_the_same) → ⊥
+refused_and_done : IsRight
+    (begin_of (asked (rests 0 0 ∷ []) forward_on) (outcome.Refused (codes "fwd") cause.NotReady) switched_all_the_same)
+    → ⊥
 refused_and_done (next, step, last) =
-    true≢false (sym (same_active next switched_all_the_same last 0) ∙ ap (λ (ls : List Loaded). list_any (λ l. is_active l && l.place == 0) ls) step.rightly.0.loaded)
+    true≢false (sym (same_active next switched_all_the_same last 0)
+    ∙ ap (λ (ls : List Loaded). list_any (λ l. is_active l && l.place == 0) ls) step.rightly.0.loaded)
 
 -- it is refused for a cause that is not true
 abbrev refused_so : State
 refused_so = record (told (rests 0 0 ∷ []) forward_on (outcome.Refused (codes "fwd") cause.NoSuchMove)) { aloft = true }
 
-untrue_cause : IsRight (begin_of (asked (rests 0 0 ∷ []) forward_on) (outcome.Refused (codes "fwd") cause.NoSuchMove) refused_so) → ⊥
+untrue_cause : IsRight
+    (begin_of (asked (rests 0 0 ∷ []) forward_on) (outcome.Refused (codes "fwd") cause.NoSuchMove) refused_so) → ⊥
 untrue_cause (next, step, last) = elim step.rightly.1 [
   | inl (is, group) ↦ (let never : cause.NoSuchMove ≡ cause.NoGroup = is in cc)
   | inr none ↦ none
@@ -215,13 +254,15 @@ untrue_cause (next, step, last) = elim step.rightly.1 [
 
 -- a controller is refused as a group that is not there
 abbrev refused_as_group : State
-refused_as_group = record (told (rests 0 0 ∷ []) forward_on (outcome.Refused (codes "fwd") cause.NoGroup)) { aloft = true }
+refused_as_group =
+    record (told (rests 0 0 ∷ []) forward_on (outcome.Refused (codes "fwd") cause.NoGroup)) { aloft = true }
 
 no_group_named : (n : ℕ) → get_or (One (codes "fwd") ∷ []) n (Group (codes "fwd")) ≡ Group (codes "fwd") → n < 1 → ⊥
 no_group_named zero is below = (let never : One (codes "fwd") ≡ Group (codes "fwd") = is in cc)
 no_group_named (suc n) is below = omega (arith, below)
 
-no_such_group : IsRight (begin_of (asked (rests 0 0 ∷ []) forward_on) (outcome.Refused (codes "fwd") cause.NoGroup) refused_as_group) → ⊥
+no_such_group : IsRight
+    (begin_of (asked (rests 0 0 ∷ []) forward_on) (outcome.Refused (codes "fwd") cause.NoGroup) refused_as_group) → ⊥
 no_such_group (next, step, last) = elim step.rightly.1 [
   | inl (is, group) ↦
       elim group.listed [
@@ -243,7 +284,8 @@ rivals_run = record (told (runs 0 0 false ∷ runs 1 3 false ∷ []) rival_at_be
 two_owners : IsRight (begin_of (asked (runs 0 0 false ∷ rests 1 3 ∷ []) rival_at_best) (outcome.Done []) rivals_run) → ⊥
 two_owners (next, step, last) =
     let same : ◌≡◌ {A = ℕ} 0 3 =
-    step.rightly.together.exclusive 0 3 j1_position (same_active next rivals_run last 0) (same_active next rivals_run last 3) refl refl in omega (arith, same)
+    step.rightly.together.exclusive 0 3 j1_position (same_active next rivals_run last 0)
+    (same_active next rivals_run last 3) refl refl in omega (arith, same)
 
 -- one runs that nobody asked for
 abbrev uninvited_runs : State

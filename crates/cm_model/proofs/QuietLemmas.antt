@@ -1,19 +1,23 @@
--- Where nobody asked for anything or is to stand in, and no controller is active, a begin puts a cycle aloft, the close closes, and neither decides anything.
+-- Where nobody asked for anything or is to stand in, and no controller is active, a begin puts a cycle aloft, the close
+-- closes, and neither decides anything.
 use Rattle.std.proofs.Common.{◌≡◌, true, false, List, [], ◌∷◌, ◌++◌, map, append-nil, refl, sym, ap, ap₂, ◌∙◌}
 use Rattle.std.specs.Prelude.{filter_map}
 use Rattle.std.specs.List.{AllByRecursion}
-use Rattle.cm_model.specs.Boundary.{waiting, all_concluded, boundary, decisions_between, begin_effect, begin_reply, close_effect, close_reply}
+use Rattle.cm_model.specs.Boundary.{waiting, all_concluded, boundary, decisions_between}
+use Rattle.cm_model.specs.Boundary.{begin_effect, begin_reply, close_effect, close_reply}
 use Rattle.cm_model.specs.Cycle.{mail_off, without_mail_off, begun}
 use Rattle.cm_model.specs.State.{State, Loaded, MailAloft, is_active, IsStill}
 use Rattle.cm_model.specs.declared.cause.Outcome.{Outcome}
 use Rattle.cm_model.specs.declared.cause.Outcome.TheVariants as outcome
 use Rattle.cm_model.specs.declared.reply.Reply.TheVariants as reply
 
-no_mail_goes : (s : State) (ls : List Loaded) → AllByRecursion (λ (l : Loaded). is_active l ≡ false) ls → filter_map (mail_off s) ls ≡ []
+no_mail_goes : (s : State) (ls : List Loaded) → AllByRecursion (λ (l : Loaded). is_active l ≡ false) ls
+    → filter_map (mail_off s) ls ≡ []
 no_mail_goes s [] still = refl
 no_mail_goes s (l ∷ ls) still = rw still.0 (no_mail_goes s ls still.1)
 
-mail_stays : (s : State) (ls : List Loaded) → AllByRecursion (λ (l : Loaded). is_active l ≡ false) ls → map (without_mail_off s) ls ≡ ls
+mail_stays : (s : State) (ls : List Loaded) → AllByRecursion (λ (l : Loaded). is_active l ≡ false) ls
+    → map (without_mail_off s) ls ≡ ls
 mail_stays s [] still = refl
 mail_stays s (l ∷ ls) still = rw still.0 (ap (λ later. l ∷ later) (mail_stays s ls still.1))
 
@@ -29,7 +33,8 @@ module _ (s : State) (none : s.requests ≡ []) (undecided : s.outcomes ≡ []) 
   pub quiet_begin : IsStill s → s.mails ≡ [] → begin_effect s ≡ record s { aloft = true }
   quiet_begin still no_mail =
       ap (λ (t : State). begun t) boundary_stays
-      ∙ ap₂ (λ (loaded : List Loaded) (mails : List MailAloft). record s { loaded = loaded; aloft = true; mails = mails })
+      ∙ ap₂ (λ (loaded : List Loaded) (mails : List MailAloft). record s
+      { loaded = loaded; aloft = true; mails = mails })
       (mail_stays s s.loaded still) (no_mail_goes s s.loaded still ∙ sym no_mail)
 
   -- and decides nothing

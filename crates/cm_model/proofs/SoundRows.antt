@@ -1,5 +1,6 @@
 -- Worked rows of soundness: for each of its parts a small history that meets it, and what it refuses.
-use Rattle.std.proofs.Common.{◌≡◌, ℕ, ◌<◌, Bool, true, false, [], ◌∷◌, ◌++◌, length, Option, Some, refl, sym, ap, true≢false, arith, pos}
+use Rattle.std.proofs.Common.{◌≡◌, ℕ, ◌<◌, Bool, true, false, [], ◌∷◌, ◌++◌, length}
+use Rattle.std.proofs.Common.{Option, Some, refl, sym, ap, true≢false, arith, pos}
 use Rattle.std.specs.Prelude.{codes, ◌==◌, ◌||◌}
 use Rattle.std.specs.List.{IsDistinct}
 use Rattle.fixed_num.specs.declared.value.Value.TheVariants.{Unset, Num}
@@ -7,11 +8,13 @@ use Rattle.cm_document.specs.Places.{a_command, of_joint, of_controller}
 use Rattle.cm_document.specs.declared.call.Call.TheVariants.{Load, Unload, Hardware, Told, ListControllers, Begin, End}
 use Rattle.cm_document.specs.declared.life.Life.TheVariants.{Unconfigured, Active}
 use Rattle.cm_model.proofs.LoadedLemmas.{and_true}
-use Rattle.cm_model.proofs.Worked.{j1_position, j1_velocity, pid_reference, robot, stock, made, moments_of, runs, rests, with_running}
+use Rattle.cm_model.proofs.Worked.{j1_position, j1_velocity, pid_reference, robot}
+use Rattle.cm_model.proofs.Worked.{stock, made, moments_of, runs, rests, with_running}
 use Rattle.cm_model.specs.Boundary.{all_concluded}
 use Rattle.cm_model.specs.Cycle.{cycle}
 use Rattle.cm_model.specs.Order.{rank_within}
-use Rattle.cm_model.specs.Sound.{Moment, LoansHold, EachRunsOnce, OneConfigurationEach, TicketsFrom, UnloadsLeaveNothing}
+use Rattle.cm_model.specs.Sound.{Moment, LoansHold, EachRunsOnce, OneConfigurationEach}
+use Rattle.cm_model.specs.Sound.{TicketsFrom, UnloadsLeaveNothing}
 use Rattle.cm_model.specs.State.{State, boot, controller_lines}
 use Rattle.cm_model.specs.declared.cause.Outcome.TheVariants as outcome
 use Rattle.cm_model.specs.declared.reply.Reply.{Reply}
@@ -41,7 +44,13 @@ at_boot = record {
   };
   present = λ p interface member reads. never member;
   empty = (available, (available, (available, (available, (λ gone. refl, (λ gone. refl, tt))))));
-  unclaimed = (λ state. never state, (λ state. never state, (λ command none. refl, (λ command none. refl, (λ command none. refl, (λ command none. refl, tt))))));
+  unclaimed = (
+    λ state. never state,
+    (
+      λ state. never state,
+      (λ command none. refl, (λ command none. refl, (λ command none. refl, (λ command none. refl, tt)))),
+    ),
+  );
   marked = tt;
 }
 
@@ -55,12 +64,17 @@ falling_serials : LoansHold (with_running (rests 1 0 ∷ rests 0 3 ∷ [])) → 
 falling_serials holds = let later : 1 < 0 = holds.rising.0.0 in omega (arith, later)
 
 -- a controller left, and its command keeps its value
-command_left : LoansHold (record (with_running (rests 0 0 ∷ [])) { values = record { interface = record { called = a_command j1_position; whose = of_joint 0 0 }; value = Num (pos 5) } ∷ [] }) → ⊥
+command_left : LoansHold
+    (record (with_running (rests 0 0 ∷ [])) {
+      values = record
+          { interface = record { called = a_command j1_position; whose = of_joint 0 0 }; value = Num (pos 5) } ∷ [];
+    }) → ⊥
 command_left holds = let nothing : Num (pos 5) ≡ Unset = holds.unclaimed.0 refl refl in cc
 
 -- two claim one interface
 two_owners : LoansHold (with_running (runs 0 0 false ∷ runs 1 3 false ∷ [])) → ⊥
-two_owners holds = let same : ◌≡◌ {A = ℕ} 0 3 = holds.together.exclusive 0 3 j1_position refl refl refl refl in omega (arith, same)
+two_owners holds =
+    let same : ◌≡◌ {A = ℕ} 0 3 = holds.together.exclusive 0 3 j1_position refl refl refl refl in omega (arith, same)
 
 -- two kinds of command on one joint
 two_modes : LoansHold (with_running (runs 0 0 false ∷ runs 1 1 false ∷ [])) → ⊥
@@ -79,7 +93,12 @@ nothing_held : LoansHold (record (with_running (runs 0 4 false ∷ [])) { values
 nothing_held holds = true≢false (sym (holds.present 4 j1_position refl refl))
 
 -- a reference of a pid that is not active and holds a number
-left_behind : LoansHold (record (with_running []) { values = record { interface = record { called = a_command pid_reference; whose = of_controller 1 }; value = Num (pos 0) } ∷ [] }) → ⊥
+left_behind : LoansHold
+    (record (with_running []) {
+      values = record
+          { interface = record { called = a_command pid_reference; whose = of_controller 1 }; value = Num (pos 0) }
+          ∷ [];
+    }) → ⊥
 left_behind holds = let nothing : Num (pos 0) ≡ Unset = holds.empty.0 refl in cc
 
 -- a pid beneath an active trajectory that takes mail
@@ -91,7 +110,8 @@ wrong_mark holds = true≢false (sym holds.marked.0)
 -- the one that is active and due ran once
 ran_once : EachRunsOnce (with_running (runs 0 0 false ∷ [])) (0 ∷ [])
 unfolding IsDistinct
-ran_once = record { exactly = λ n. ap (λ b. b || false) (sym (and_true (0 == n))); once = (tt, tt); predecessors_first = (tt, tt) }
+ran_once = record
+    { exactly = λ n. ap (λ b. b || false) (sym (and_true (0 == n))); once = (tt, tt); predecessors_first = (tt, tt) }
 
 -- it did not run, or ran twice
 did_not_run : EachRunsOnce (with_running (runs 0 0 false ∷ [])) [] → ⊥
@@ -145,7 +165,13 @@ leaves_within holds = let fewer : ◌≡◌ {A = ℕ} 0 1 = ap (λ each. length 
 
 -- an end that tells of no update
 abbrev empty_end : Moment
-empty_end = record { before = in_cycle; call = End 0; reply = reply.Cycle (record ((cycle in_cycle).happened) { ran = [] }); after = in_cycle }
+empty_end = record {
+  before = in_cycle;
+  call = End 0;
+  reply = reply.Cycle (record ((cycle in_cycle).happened) { ran = [] });
+  after =
+      in_cycle;
+}
 
 abbrev updates_told : Reply → ℕ
 updates_told (reply.Cycle happened) = length happened.ran
@@ -171,7 +197,8 @@ told_once = (
 -- it is decided twice
 decided_twice : TicketsFrom [] (moments_of asked (Begin 0 ∷ []) ++ moments_of asked (Begin 0 ∷ [])) → ⊥
 unfolding all_concluded
-decided_twice holds = let more : ◌≡◌ {A = ℕ} 2 1 = ap (λ decisions. length decisions) holds.1.0.each_once in omega (arith, more)
+decided_twice holds =
+    let more : ◌≡◌ {A = ℕ} 2 1 = ap (λ decisions. length decisions) holds.1.0.each_once in omega (arith, more)
 
 -- it is told otherwise than decided
 abbrev says_ended : Option Reply → Bool
@@ -179,7 +206,8 @@ says_ended (Some (reply.Outcome outcome.LoopEnded)) = true
 says_ended _ = false
 
 abbrev another_answer : Moment
-another_answer = record { before = decided_state; call = Told 0; reply = reply.Outcome outcome.LoopEnded; after = decided_state }
+another_answer =
+    record { before = decided_state; call = Told 0; reply = reply.Outcome outcome.LoopEnded; after = decided_state }
 
 told_otherwise : TicketsFrom [] (moments_of asked (Begin 0 ∷ []) ++ another_answer ∷ []) → ⊥
 unfolding all_concluded
@@ -188,12 +216,20 @@ told_otherwise holds = never (ap says_ended holds.1.0.told)
 -- ---- Unloads
 
 -- a controller is loaded and unloaded, and no list has it
-gone : UnloadsLeaveNothing (moments_of (boot robot stock 1) (Load (codes "fwd") ∷ Unload (codes "fwd") ∷ ListControllers ∷ []))
+gone : UnloadsLeaveNothing
+    (moments_of (boot robot stock 1) (Load (codes "fwd") ∷ Unload (codes "fwd") ∷ ListControllers ∷ []))
 gone = (tt, (record { done = refl; gone = λ done. (refl, tt) }, (tt, tt)))
 
 -- a list that has it still
 abbrev still_there : Moment
-still_there = record { before = at_rest; call = ListControllers; reply = reply.Controllers (controller_lines at_rest); after = at_rest }
+still_there =
+    record {
+      before = at_rest;
+      call = ListControllers;
+      reply = reply.Controllers (controller_lines at_rest);
+      after =
+          at_rest;
+    }
 
 listed_after : UnloadsLeaveNothing (moments_of at_rest (Unload (codes "fwd") ∷ []) ++ still_there ∷ []) → ⊥
 listed_after holds = true≢false (holds.0.gone refl).0

@@ -1,5 +1,6 @@
 -- While no controller is active a cycle updates none and stops none.
-use Rattle.std.proofs.Common.{◌≡◌, ℕ, zero, suc, Bool, true, false, List, [], ◌∷◌, map, Option, Some, None, refl, sym, ap, ap₂, ◌∙◌}
+use Rattle.std.proofs.Common.{◌≡◌, ℕ, zero, suc, Bool, true, false, List, [], ◌∷◌}
+use Rattle.std.proofs.Common.{map, Option, Some, None, refl, sym, ap, ap₂, ◌∙◌}
 use Rattle.std.specs.Prelude.{◌==◌, ◌&&◌, ◌||◌, not, if◌then◌else◌, filter, length, is_some}
 use Rattle.std.specs.List.{AllByRecursion, list_any}
 use Rattle.iface_names.specs.declared.interface.IfaceName.{IfaceName}
@@ -8,7 +9,9 @@ use Rattle.cm_document.specs.declared.description.Params.{Params}
 use Rattle.cm_document.specs.declared.life.Life.TheVariants.{Unconfigured, Inactive, Active}
 use Rattle.cm_model.specs.Commit.{seen, scene_of, committed, is_exported_by, is_freed, freed_of, changed, commit}
 use Rattle.cm_model.specs.Components.{read_succeeds}
-use Rattle.cm_model.specs.Cycle.{component_is, components_stepped, failed_in, active_order, is_due_now, is_held_off, with_updates, updates, must_stop, stays_active, stops, CycleResult, cycle_with, cycle, landed, after_cycle, IsIdle}
+use Rattle.cm_model.specs.Cycle.{component_is, components_stepped, failed_in, active_order, is_due_now}
+use Rattle.cm_model.specs.Cycle.{is_held_off, with_updates, updates, must_stop, stays_active, stops}
+use Rattle.cm_model.specs.Cycle.{CycleResult, cycle_with, cycle, landed, after_cycle, IsIdle}
 use Rattle.cm_model.specs.Order.{Places, some_below, by_rank, depth}
 use Rattle.cm_storage.specs.Ran.{Ran}
 use Rattle.cm_model.specs.Scene.{is_running, has_seen, claims_at, is_claimed_by}
@@ -22,7 +25,8 @@ use Rattle.fixed_num.specs.declared.value.BodyState.{BodyState}
 -- ---- None among them
 
 -- none of them is active and passes a test
-pub still_any : (test : Loaded → Bool) (ls : List Loaded) → AllByRecursion (λ (l : Loaded). is_active l ≡ false) ls → list_any (λ (l : Loaded). is_active l && test l) ls ≡ false
+pub still_any : (test : Loaded → Bool) (ls : List Loaded) → AllByRecursion (λ (l : Loaded). is_active l ≡ false) ls
+    → list_any (λ (l : Loaded). is_active l && test l) ls ≡ false
 still_any test [] still = refl
 still_any test (l ∷ ls) still = rw still.0 (still_any test ls still.1)
 
@@ -46,7 +50,8 @@ map_same {A = A} f same (x ∷ xs) = ap₂ (λ (y : A) (ys : List A). y ∷ ys) 
 -- ---- As a switch would see them
 
 not_running : (params : Option Params) (run : Option RunData) → is_some run ≡ false
-    → is_running (elim params [ None ↦ Unconfigured | Some given ↦ elim run [ None ↦ Inactive | Some part ↦ Active ] ]) ≡ false
+    → is_running (elim params [ None ↦ Unconfigured | Some given ↦ elim run [ None ↦ Inactive | Some part ↦ Active ] ])
+    ≡ false
 not_running None run idle = refl
 not_running (Some given) None idle = refl
 not_running (Some given) (Some part) idle = cc
@@ -55,7 +60,8 @@ nobody_runs : (s : State) (ls : List Loaded) (p : ℕ) → AllByRecursion (λ (l
     → has_seen (λ each. is_running each.life) (map (seen s) ls) p ≡ false
 nobody_runs s [] p still = refl
 nobody_runs s (l ∷ ls) p still =
-    no_more (l.place == p) (is_running (life_of l.ctl)) (has_seen (λ each. is_running each.life) (map (seen s) ls) p) (not_running l.ctl.params l.ctl.run still.0) (nobody_runs s ls p still.1)
+    no_more (l.place == p) (is_running (life_of l.ctl)) (has_seen (λ each. is_running each.life) (map (seen s) ls) p)
+    (not_running l.ctl.params l.ctl.run still.0) (nobody_runs s ls p still.1)
   where
     no_more : (here runs others : Bool) → runs ≡ false → others ≡ false → ((here && runs) || others) ≡ false
     no_more true runs others first rest = rw (first, rest) refl
@@ -63,7 +69,8 @@ nobody_runs s (l ∷ ls) p still =
 
 -- ---- A commit
 
-module _ (s : State) (set stopped started : Places) (none_stopped : (p : ℕ) → stopped p ≡ false) (none_started : (p : ℕ) → started p ≡ false) where
+module _ (s : State) (set stopped started : Places) (none_stopped : (p : ℕ) → stopped p ≡ false)
+    (none_started : (p : ℕ) → started p ≡ false) where
   controller_stays : (l : Loaded) → committed s set stopped started l ≡ l
   controller_stays l = rw (none_started l.place, none_stopped l.place) refl
 
@@ -83,14 +90,16 @@ module _ (s : State) (set stopped started : Places) (none_stopped : (p : ℕ) �
   value_stays : (v : InterfaceValue) → freed_of s stopped v ≡ v
   value_stays v =
       let free : is_freed s stopped v.interface ≡ false =
-      ap₂ (λ (first b : Bool). v.interface.called.is_command && (first || b)) (none_claims v.interface.called.name) (none_exports v.interface.whose)
+      ap₂ (λ (first b : Bool). v.interface.called.is_command && (first || b)) (none_claims v.interface.called.name)
+      (none_exports v.interface.whose)
       ∙ none_both v.interface.called.is_command in
       ap (λ (b : Bool). if b then unset v.interface else v) free
 
   pub nothing_changes : changed s set stopped started ≡ s
   nothing_changes =
       ap₂ (λ (loaded : List Loaded) (values : List InterfaceValue). record s { loaded = loaded; values = values })
-      (map_same (committed s set stopped started) controller_stays s.loaded) (map_same (freed_of s stopped) value_stays s.values)
+      (map_same (committed s set stopped started) controller_stays s.loaded)
+      (map_same (freed_of s stopped) value_stays s.values)
 
 -- where nobody is active and nobody is to be, nothing changes
 pub idle_commit : (s : State) (set again : Places) → IsStill s → ((p : ℕ) → set p ≡ false) → commit s set again ≡ s
@@ -108,17 +117,23 @@ module _ (s : State) (still : IsStill s) where
 
   nobody_in_order : active_order s ≡ []
   nobody_in_order =
-      ap (by_rank (λ (l : Loaded). depth s.description.controllers (active s) l.place) (suc (length s.description.controllers))) (still_none s.loaded still)
-      ∙ none_by_rank (λ (l : Loaded). depth s.description.controllers (active s) l.place) (suc (length s.description.controllers))
+      ap (by_rank (λ (l : Loaded). depth s.description.controllers (active s) l.place)
+      (suc (length s.description.controllers))) (still_none s.loaded still)
+      ∙ none_by_rank (λ (l : Loaded). depth s.description.controllers (active s) l.place)
+      (suc (length s.description.controllers))
 
   -- none is updated
-  pub idle_updates : (values : List InterfaceValue) → updates s values ≡ record { loaded = s.loaded; values = values; ran = [] }
+  pub idle_updates : (values : List InterfaceValue)
+      → updates s values ≡ record { loaded = s.loaded; values = values; ran = [] }
   idle_updates values =
-      ap (λ (ls : List Loaded). with_updates s (record { loaded = s.loaded; values = values; ran = [] }) (filter (λ l. is_due_now s l && not (is_held_off s l)) ls)) nobody_in_order
+      ap (λ (ls : List Loaded). with_updates s (record { loaded = s.loaded; values = values; ran = [] })
+      (filter (λ l. is_due_now s l && not (is_held_off s l)) ls)) nobody_in_order
 
   -- and none stopped
   pub idle_stops : (ran : List Ran) → stops s ran ≡ []
-  idle_stops ran = ap (λ (ls : List Loaded). map (λ (l : Loaded). l.serial) (filter (λ (l : Loaded). must_stop s ran l.place) ls)) nobody_in_order
+  idle_stops ran =
+      ap (λ (ls : List Loaded). map (λ (l : Loaded). l.serial) (filter (λ (l : Loaded). must_stop s ran l.place) ls))
+      nobody_in_order
 
   -- the values after the reads of the cycle, and the bodies after its steps
   abbrev pub values_read : List InterfaceValue

@@ -1,4 +1,5 @@
--- Worked rows of cycles in which controllers run, computed from the definitions alone: the records written down here are by hand.
+-- Worked rows of cycles in which controllers run, computed from the definitions alone: the records written down here
+-- are by hand.
 use Rattle.std.proofs.Common.{◌≡◌, ℕ, zero, suc, true, false, List, [], ◌∷◌, ◌++◌, map, pos, Some, None, refl}
 use Rattle.std.specs.Prelude.{◌==◌, if◌then◌else◌, codes}
 use Rattle.std.specs.Fmt.{digits}
@@ -17,7 +18,8 @@ use Rattle.cm_document.specs.declared.description.CompDesc.{CompDesc}
 use Rattle.cm_document.specs.declared.description.CompKind.TheVariants.{System}
 use Rattle.cm_document.specs.declared.description.CtlDesc.{CtlDesc}
 use Rattle.cm_document.specs.declared.description.Description.{Description}
-use Rattle.cm_document.specs.declared.description.Params.TheVariants.{Forward, Passthrough, Pid, Trajectory, Broadcaster, Mock}
+use Rattle.cm_document.specs.declared.description.Params.TheVariants.{Forward, Passthrough, Pid}
+use Rattle.cm_document.specs.declared.description.Params.TheVariants.{Trajectory, Broadcaster, Mock}
 use Rattle.cm_document.specs.declared.life.Life.TheVariants.{Active, Unconfigured}
 use Rattle.cm_model.specs.Blanks.{no_blanks}
 use Rattle.cm_model.specs.Commit.{commit}
@@ -43,13 +45,15 @@ pid_reference = Reference (codes "pid") (codes "j1") Position
 -- a system of one joint that is driven by position or velocity, of which reads and writes fail in these cycles
 abbrev arm : List ℕ → List ℕ → CompDesc
 arm fail_read fail_write = a_component (codes "arm") System Active Unconfigured fail_read fail_write
-    (a_joint (codes "j1") (pos 1000000) (pos 1000000) (pos 0) (pos 0) (pos 0) (Position ∷ Velocity ∷ []) (Position ∷ Velocity ∷ []) ∷ [])
+    (a_joint (codes "j1") (pos 1000000) (pos 1000000) (pos 0) (pos 0) (pos 0) (Position ∷ Velocity ∷ [])
+    (Position ∷ Velocity ∷ []) ∷ [])
 
 abbrev fwd : CtlDesc
 fwd = a_controller (codes "fwd") 0 (j1_position ∷ []) [] (Forward 1)
 
 abbrev pid : CtlDesc
-pid = a_controller (codes "pid") 0 (j1_velocity ∷ []) (j1_position ∷ []) (Pid (pos 2000000) (pos 0) (pos 0) (pos 0) (pos 10000000))
+pid = a_controller (codes "pid") 0 (j1_velocity ∷ []) (j1_position ∷ [])
+    (Pid (pos 2000000) (pos 0) (pos 0) (pos 0) (pos 10000000))
 
 abbrev traj : CtlDesc
 traj = a_controller (codes "traj") 0 (pid_reference ∷ []) (j1_position ∷ []) (Trajectory 1)
@@ -133,7 +137,8 @@ abbrev alone : Description
 alone = robot (arm [] []) (fwd ∷ [])
 
 -- it gives what it was sent, from the cycle that took its mail; the joint follows with its highest velocity
-a_forward_is_sent_a_value : (told (names alone) (at_work 0 alone) ∷ records 2 (names alone) (with_mail 0 (Values (pos 500000 ∷ [])) (next (at_work 0 alone))))
+a_forward_is_sent_a_value : (told (names alone) (at_work 0 alone)
+    ∷ records 2 (names alone) (with_mail 0 (Values (pos 500000 ∷ [])) (next (at_work 0 alone))))
     ≡ codes "run fwd ok unset; joint j1 0.000000 0.000000 0.000000"
     ∷ codes "run fwd ok 0.500000; joint j1 0.010000 1.000000 0.000000"
     ∷ codes "run fwd ok 0.500000; joint j1 0.020000 1.000000 0.000000"
@@ -174,12 +179,14 @@ a_broadcaster_publishes = refl
 
 -- ---- A chain
 
--- A trajectory over a pid that was loaded before it: it is updated first, and the pid takes what it gave out in the same cycle.
+-- A trajectory over a pid that was loaded before it: it is updated first, and the pid takes what it gave out in the
+-- same cycle.
 abbrev chain : Description
 chain = robot (arm [] []) (pid ∷ traj ∷ [])
 
 the_follower_runs_last : (told (names chain) (at_work 1 chain)
-    ∷ records 4 (names chain) (with_mail 1 (Points (record { at_us = 20000; values = pos 100000 ∷ [] } ∷ [])) (next (at_work 1 chain))))
+    ∷ records 4 (names chain)
+    (with_mail 1 (Points (record { at_us = 20000; values = pos 100000 ∷ [] } ∷ [])) (next (at_work 1 chain))))
     ≡ codes "run traj ok 0.000000; run pid ok 0.000000; joint j1 0.000000 0.000000 0.000000"
     ∷ codes "run traj ok 0.000000; run pid ok 0.000000; joint j1 0.000000 0.000000 0.000000"
     ∷ codes "run traj ok 0.050000; run pid ok 0.100000; joint j1 0.001000 0.100000 0.000000"
@@ -191,11 +198,13 @@ the_follower_runs_last = refl
 
 -- ---- Failures
 
--- The read of the component fails in cycle 4: the pid, which reads it, is held off; what commands the pid runs; both are stopped.
+-- The read of the component fails in cycle 4: the pid, which reads it, is held off; what commands the pid runs; both
+-- are stopped.
 abbrev unread : Description
 unread = robot (arm (4 ∷ []) []) (pid ∷ pt ∷ [])
 
-a_failed_read_stops_a_chain : (told (names unread) (at_work 4 unread) ∷ (lists unread (next (at_work 4 unread)) ++ records 1 (names unread) (next (at_work 4 unread))))
+a_failed_read_stops_a_chain : (told (names unread) (at_work 4 unread)
+    ∷ (lists unread (next (at_work 4 unread)) ++ records 1 (names unread) (next (at_work 4 unread))))
     ≡ codes "fail arm read; run pt ok unset; joint j1 0.000000 0.000000 0.000000; stop pt; stop pid"
     ∷ codes "pid pid inactive 0 every 1; pt passthrough inactive 1 every 1"
     ∷ codes "arm system unconfigured"
@@ -209,7 +218,8 @@ a_failed_read_stops_a_chain = refl
 abbrev unwritten : Description
 unwritten = robot (arm [] (2 ∷ [])) (fwd ∷ [])
 
-a_failed_write_stops_who_claims : records 4 (names unwritten) (with_mail 0 (Values (pos 500000 ∷ [])) (at_work 0 unwritten))
+a_failed_write_stops_who_claims : records 4 (names unwritten)
+    (with_mail 0 (Values (pos 500000 ∷ [])) (at_work 0 unwritten))
     ≡ codes "run fwd ok 0.500000; joint j1 0.010000 1.000000 0.000000"
     ∷ codes "run fwd ok 0.500000; joint j1 0.020000 1.000000 0.000000"
     ∷ codes "fail arm write; run fwd ok 0.500000; joint j1 0.020000 0.000000 0.000000; stop fwd"
@@ -218,13 +228,14 @@ a_failed_write_stops_who_claims : records 4 (names unwritten) (with_mail 0 (Valu
 unfolding digits spelled stepped within clamped floor_div cycle after_cycle commit reaches rank_within
 a_failed_write_stops_who_claims = refl
 
--- Two updates fail in cycle 1, and both controllers are stopped. One of them commanded the pid, which runs once more by the reference
--- as it stood, and restarts unchained; the reference and what the other claimed are Unset again.
+-- Two updates fail in cycle 1, and both controllers are stopped. One of them commanded the pid, which runs once more by
+-- the reference as it stood, and restarts unchained; the reference and what the other claimed are Unset again.
 abbrev erring : Description
 erring = robot (arm [] []) (pid ∷ over ∷ mk ∷ [])
 
 failed_updates_stop_two :
-    (records 3 (names erring) (with_mail 1 (Values (pos 100000 ∷ [])) (at_work 0 erring)) ++ lists erring (next (next (with_mail 1 (Values (pos 100000 ∷ [])) (at_work 0 erring)))))
+    (records 3 (names erring) (with_mail 1 (Values (pos 100000 ∷ [])) (at_work 0 erring))
+    ++ lists erring (next (next (with_mail 1 (Values (pos 100000 ∷ [])) (at_work 0 erring)))))
     ≡ codes "run over ok 0.100000; run mk ok; run pid ok 0.200000; joint j1 0.002000 0.200000 0.000000"
     ∷ codes "run over error; run mk error; run pid ok 0.196000; joint j1 0.003960 0.196000 0.000000; stop over; stop mk"
     ∷ codes "run pid ok unset; joint j1 0.003960 0.000000 0.000000"

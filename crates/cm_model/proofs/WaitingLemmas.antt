@@ -1,5 +1,6 @@
 -- What a step makes of the requests, and that a written call of a session is answered where the loop is closed.
-use Rattle.std.proofs.Common.{◌≡◌, ℕ, ◌+◌, ◌-◌, ◌<◌, ◌≤◌, List, [], ◌∷◌, ◌++◌, length, map, Option, Some, None, Bool, true, false, nat_lt, refl, ◌∙◌, ◌⊎◌, inl, inr, arith}
+use Rattle.std.proofs.Common.{◌≡◌, ℕ, ◌+◌, ◌-◌, ◌<◌, ◌≤◌, List, [], ◌∷◌, ◌++◌, length, map, Option}
+use Rattle.std.proofs.Common.{Some, None, Bool, true, false, nat_lt, refl, ◌∙◌, ◌⊎◌, inl, inr, arith}
 use Rattle.std.specs.Prelude.{slice_get, not, IfSome, if◌then◌else◌, option_map}
 use Rattle.std.proofs.lemmas.List.{length-append, length-map, length-drop}
 use Rattle.std.proofs.lemmas.Bool.{cases_Bool}
@@ -9,14 +10,21 @@ use Rattle.std.proofs.Math.Bool.{or-true}
 use Rattle.cm_document.proofs.ReadingLemmas.{cases_Option, chosen}
 use Rattle.cm_document.specs.ScriptLaws.{CanBeWritten}
 use Rattle.cm_document.specs.declared.call.Call.{Call}
-use Rattle.cm_document.specs.declared.call.Call.TheVariants.{Load, Configure, Cleanup, Unload, Rate, Send, Switch, Hardware, Told, Await, ListControllers, ListInterfaces, ListComponents, Begin, End, Close}
+use Rattle.cm_document.specs.declared.call.Call.TheVariants.{Load, Configure, Cleanup, Unload, Rate, Send}
+use Rattle.cm_document.specs.declared.call.Call.TheVariants.{Switch, Hardware, Told, Await, ListControllers}
+use Rattle.cm_document.specs.declared.call.Call.TheVariants.{ListInterfaces, ListComponents, Begin, End, Close}
 use Rattle.cm_document.specs.declared.description.CtlDesc.{CtlDesc}
 use Rattle.cm_document.specs.declared.life.Life.{Life}
 use Rattle.cm_model.specs.BestEffort.{decided}
-use Rattle.cm_model.specs.Boundary.{waiting, standing_in, after_standing_in, after_fallbacks, is_full, request_reply, request_effect, with_switch, component_place, move_fault, with_move_unless, with_move, concluded, with_outcome, all_concluded, boundary, close_effect}
+use Rattle.cm_model.specs.Boundary.{waiting, standing_in, after_standing_in, after_fallbacks, is_full, request_reply}
+use Rattle.cm_model.specs.Boundary.{request_effect, with_switch, component_place, move_fault, with_move_unless}
+use Rattle.cm_model.specs.Boundary.{with_move, concluded, with_outcome, all_concluded, boundary, close_effect}
 use Rattle.cm_model.specs.Commit.{scene_of, commit}
-use Rattle.cm_model.specs.Console.{unless_refused, place_of, slot_of, controller_of, reply_on, where_done, with_slot, with_changed, without_slot, after_configure, after_cleanup, after_rate, after_send, configure_refusals, cleanup_refusals, unload_refusals, rate_refusals, send_refusals}
-use Rattle.cm_model.specs.Machine.{is_enabled, reply_of, with_controller, with_loaded, load_effect, load_refusals, effect, answered, step}
+use Rattle.cm_model.specs.Console.{unless_refused, place_of, slot_of, controller_of, reply_on, where_done, with_slot}
+use Rattle.cm_model.specs.Console.{with_changed, without_slot, after_configure, after_cleanup, after_rate, after_send}
+use Rattle.cm_model.specs.Console.{configure_refusals, cleanup_refusals, unload_refusals, rate_refusals, send_refusals}
+use Rattle.cm_model.specs.Machine.{is_enabled, reply_of, with_controller, with_loaded}
+use Rattle.cm_model.specs.Machine.{load_effect, load_refusals, effect, answered, step}
 use Rattle.cm_model.specs.Scheduled.{ticket_in}
 use Rattle.cm_model.specs.Sessions.{IsConsole}
 use Rattle.cm_model.specs.State.{State, Loaded}
@@ -57,7 +65,8 @@ with_slot-Requests : (s : State) (i : ℕ) (o : Option Loaded) → SameRequests 
 with_slot-Requests s i None = same_requests s
 with_slot-Requests s i (Some l) = record { requests = refl; outcomes = refl }
 
-with_changed-Requests : (change : Loaded → Loaded) (s : State) (slot : Option ℕ) → SameRequests s (with_changed change s slot)
+with_changed-Requests : (change : Loaded → Loaded) (s : State) (slot : Option ℕ)
+    → SameRequests s (with_changed change s slot)
 with_changed-Requests change s None = same_requests s
 with_changed-Requests change s (Some i) = with_slot-Requests s i (option_map change (slice_get s.loaded i))
 
@@ -72,21 +81,24 @@ where_done-Requests s after _ same = same_requests s
 -- ---- What is asked
 
 -- a refusal gives no ticket, nor does a call on one loaded controller, nor a load
-none_refused : (refusals : List (Bool × Why)) (r : Reply) → ticket_in r ≡ None → ticket_in (unless_refused refusals r) ≡ None
+none_refused : (refusals : List (Bool × Why)) (r : Reply) → ticket_in r ≡ None
+    → ticket_in (unless_refused refusals r) ≡ None
 none_refused [] r none = none
 none_refused (refusal ∷ refusals) r none =
-    chosen (λ (answer : Reply). ticket_in answer ≡ None) refusal.0 (reply.Not refusal.1) (unless_refused refusals r) refl (none_refused refusals r none)
+    chosen (λ (answer : Reply). ticket_in answer ≡ None) refusal.0 (reply.Not refusal.1) (unless_refused refusals r)
+    refl (none_refused refusals r none)
 
 none_on : (refusals : Loaded → List (Bool × Why)) (o : Option Loaded) → ticket_in (reply_on refusals o) ≡ None
 none_on refusals None = refl
 none_on refusals (Some l) = none_refused (refusals l) reply.Done refl
 
-none_told : (o : Option Outcome) (r : Reply) → option_map (λ (became : Outcome). reply.Outcome became) o ≡ Some r → ticket_in r ≡ None
+none_told : (o : Option Outcome) (r : Reply) → option_map (λ (became : Outcome). reply.Outcome became) o ≡ Some r
+    → ticket_in r ≡ None
 none_told None r told = cc
 none_told (Some became) r told = let same = same_Some (reply.Outcome became) r told in rw (← same) refl
 
--- What a console call makes of the requests: there are no fewer of them, its ticket is that of one, and where the loop is closed
--- they and their outcomes are as before.
+-- What a console call makes of the requests: there are no fewer of them, its ticket is that of one, and where the loop
+-- is closed they and their outcomes are as before.
 pub record Asks (s after : State) (r : Reply) : Type 0 where
   pub more : length s.requests ≤ length after.requests
   pub given : IfSome (ticket_in r) (λ ticket. ticket < length after.requests)
@@ -104,40 +116,70 @@ asks_nothing s after r same none = record {
 asks_request : (s : State) (asked : Request) → Asks s (request_effect s asked (request_reply s)) (request_reply s)
 asks_request s asked = asked_by (cases_Bool s.closed) (cases_Bool (is_full s))
   where
-    not_taken : (reason : Why) → request_reply s ≡ reply.Not reason → Asks s (request_effect s asked (request_reply s)) (request_reply s)
+    not_taken : (reason : Why) → request_reply s ≡ reply.Not reason
+        → Asks s (request_effect s asked (request_reply s)) (request_reply s)
     not_taken reason is = rw is (asks_nothing s s (reply.Not reason) (same_requests s) refl)
 
-    taken : s.closed ≡ false → request_reply s ≡ reply.Queued (length s.requests) → Asks s (request_effect s asked (request_reply s)) (request_reply s)
+    taken : s.closed ≡ false → request_reply s ≡ reply.Queued (length s.requests)
+        → Asks s (request_effect s asked (request_reply s)) (request_reply s)
     taken opened is =
-        let longer : length (s.requests ++ asked ∷ []) ≡ length s.requests + 1 = length-append s.requests (asked ∷ []) in
-        rw is (record { more = omega (arith, longer); given = omega (arith, longer); still = λ closed. (let wrong : false ≡ true = rw opened at closed in cc) })
+        let longer : length (s.requests ++ asked ∷ []) ≡ length s.requests + 1 =
+        length-append s.requests (asked ∷ []) in
+        rw is (record {
+          more = omega (arith, longer);
+          given = omega (arith, longer);
+          still =
+              λ closed. (let wrong : false ≡ true = rw opened at closed in cc);
+        })
 
-    asked_by : ((s.closed ≡ true) ⊎ (s.closed ≡ false)) → ((is_full s ≡ true) ⊎ (is_full s ≡ false)) → Asks s (request_effect s asked (request_reply s)) (request_reply s)
+    asked_by : ((s.closed ≡ true) ⊎ (s.closed ≡ false)) → ((is_full s ≡ true) ⊎ (is_full s ≡ false))
+        → Asks s (request_effect s asked (request_reply s)) (request_reply s)
     asked_by (inl closed) full = not_taken why.LoopEnded (rw closed refl)
     asked_by (inr opened) (inl full) = not_taken why.QueueFull (rw (opened, full) refl)
     asked_by (inr opened) (inr room) = taken opened (rw (opened, room) refl)
 
 -- a reply that is there is this one
-asks_by : (s : State) (call : Call) (known r : Reply) → Some known ≡ Some r → Asks s (effect s call known) known → Asks s (effect s call r) r
+asks_by : (s : State) (call : Call) (known r : Reply) → Some known ≡ Some r → Asks s (effect s call known) known
+    → Asks s (effect s call r) r
 asks_by s call known r is asks = let same = same_Some known r is in rw (← same) asks
 
-asks_on : (s after : State) (refusals : Loaded → List (Bool × Why)) (o : Option Loaded) → SameRequests s after → Asks s (where_done (reply_on refusals o) after s) (reply_on refusals o)
-asks_on s after refusals o same = asks_nothing s _ (reply_on refusals o) (where_done-Requests s after (reply_on refusals o) same) (none_on refusals o)
+asks_on : (s after : State) (refusals : Loaded → List (Bool × Why)) (o : Option Loaded) → SameRequests s after
+    → Asks s (where_done (reply_on refusals o) after s) (reply_on refusals o)
+asks_on s after refusals o same =
+    asks_nothing s _ (reply_on refusals o) (where_done-Requests s after (reply_on refusals o) same) (none_on refusals o)
 
 -- each console call
-pub asks : (s : State) (call : Call) (r : Reply) → IsConsole call → reply_of s call ≡ Some r → Asks s (effect s call r) r
+pub asks : (s : State) (call : Call) (r : Reply) → IsConsole call → reply_of s call ≡ Some r
+    → Asks s (effect s call r) r
 asks s (Load name) r console is =
     let known = unless_refused (load_refusals s (place_of s name)) (reply.Serial s.loads) in
-    asks_by s (Load name) known r is (asks_nothing s _ known (load_effect-Requests s name known) (none_refused (load_refusals s (place_of s name)) (reply.Serial s.loads) refl))
-asks s (Configure name) r console is = asks_by s (Configure name) _ r is (asks_on s _ (configure_refusals s) (controller_of s name) (with_changed-Requests (after_configure s) s (slot_of s name)))
-asks s (Cleanup name) r console is = asks_by s (Cleanup name) _ r is (asks_on s _ cleanup_refusals (controller_of s name) (with_changed-Requests after_cleanup s (slot_of s name)))
-asks s (Unload name) r console is = asks_by s (Unload name) _ r is (asks_on s _ unload_refusals (controller_of s name) (without_slot-Requests s (slot_of s name)))
-asks s (Rate name hz) r console is = asks_by s (Rate name hz) _ r is (asks_on s _ rate_refusals (controller_of s name) (with_changed-Requests (after_rate hz) s (slot_of s name)))
-asks s (Send name mail) r console is = asks_by s (Send name mail) _ r is (asks_on s _ (send_refusals s mail) (controller_of s name) (with_changed-Requests (after_send mail) s (slot_of s name)))
-asks s (Switch asked) r console is = asks_by s (Switch asked) (request_reply s) r is (asks_request s (request.Switch asked))
-asks s (Hardware component target) r console is = asks_by s (Hardware component target) (request_reply s) r is (asks_request s (request.Hardware component target))
+    asks_by s (Load name) known r is
+    (asks_nothing s _ known (load_effect-Requests s name known)
+    (none_refused (load_refusals s (place_of s name)) (reply.Serial s.loads) refl))
+asks s (Configure name) r console is =
+    asks_by s (Configure name) _ r is
+    (asks_on s _ (configure_refusals s) (controller_of s name)
+    (with_changed-Requests (after_configure s) s (slot_of s name)))
+asks s (Cleanup name) r console is =
+    asks_by s (Cleanup name) _ r is
+    (asks_on s _ cleanup_refusals (controller_of s name) (with_changed-Requests after_cleanup s (slot_of s name)))
+asks s (Unload name) r console is =
+    asks_by s (Unload name) _ r is
+    (asks_on s _ unload_refusals (controller_of s name) (without_slot-Requests s (slot_of s name)))
+asks s (Rate name hz) r console is =
+    asks_by s (Rate name hz) _ r is
+    (asks_on s _ rate_refusals (controller_of s name) (with_changed-Requests (after_rate hz) s (slot_of s name)))
+asks s (Send name mail) r console is =
+    asks_by s (Send name mail) _ r is
+    (asks_on s _ (send_refusals s mail) (controller_of s name)
+    (with_changed-Requests (after_send mail) s (slot_of s name)))
+asks s (Switch asked) r console is =
+    asks_by s (Switch asked) (request_reply s) r is (asks_request s (request.Switch asked))
+asks s (Hardware component target) r console is =
+    asks_by s (Hardware component target) (request_reply s) r is (asks_request s (request.Hardware component target))
 asks s (Told ticket) r console is = asks_nothing s s r (same_requests s) (none_told (slice_get s.outcomes ticket) r is)
-asks s (Await cycles) r console is = asks_by s (Await cycles) reply.Done r is (asks_nothing s s reply.Done (same_requests s) refl)
+asks s (Await cycles) r console is =
+    asks_by s (Await cycles) reply.Done r is (asks_nothing s s reply.Done (same_requests s) refl)
 asks s ListControllers r console is = asks_by s ListControllers _ r is (asks_nothing s s _ (same_requests s) refl)
 asks s ListInterfaces r console is = asks_by s ListInterfaces _ r is (asks_nothing s s _ (same_requests s) refl)
 asks s ListComponents r console is = asks_by s ListComponents _ r is (asks_nothing s s _ (same_requests s) refl)
@@ -156,23 +198,27 @@ concluded-requests s asked = one_concluded asked
     by_switch (refused because) = refl
     by_switch (done dropped set again) = refl
 
-    moved_unless : (name : List ℕ) (component : ℕ) (target : Life) (fault : Option Cause) → (with_move_unless s name component target fault).state.requests ≡ s.requests
+    moved_unless : (name : List ℕ) (component : ℕ) (target : Life) (fault : Option Cause)
+        → (with_move_unless s name component target fault).state.requests ≡ s.requests
     moved_unless name component target None = refl
     moved_unless name component target (Some reason) = refl
 
-    by_move : (name : List ℕ) (target : Life) (place : Option ℕ) → (with_move s name target place).state.requests ≡ s.requests
+    by_move : (name : List ℕ) (target : Life) (place : Option ℕ)
+        → (with_move s name target place).state.requests ≡ s.requests
     by_move name target None = refl
     by_move name target (Some component) = moved_unless name component target (move_fault s component target)
 
     one_concluded : (asked : Request) → (concluded s asked).state.requests ≡ s.requests
     one_concluded (request.Switch asked) = by_switch (decided (scene_of s) asked)
-    one_concluded (request.Hardware component target) = by_move component target (component_place s.description component)
+    one_concluded (request.Hardware component target) =
+        by_move component target (component_place s.description component)
 
 -- what is decided between two cycles was asked before
 all_concluded-requests : (s : State) (requests : List Request) → (all_concluded s requests).requests ≡ s.requests
 unfolding all_concluded
 all_concluded-requests s [] = refl
-all_concluded-requests s (asked ∷ later) = all_concluded-requests (with_outcome (concluded s asked)) later ∙ concluded-requests s asked
+all_concluded-requests s (asked ∷ later) =
+    all_concluded-requests (with_outcome (concluded s asked)) later ∙ concluded-requests s asked
 
 -- and those that stand in ask for nothing
 pub standing-requests : (s : State) (names : List (List ℕ)) → (after_standing_in s names).requests ≡ s.requests
@@ -180,7 +226,8 @@ standing-requests s [] = refl
 standing-requests s (name ∷ names) = concluded-requests (record s { fallbacks = [] }) (standing_in (name ∷ names))
 
 pub boundary-requests : (s : State) → (boundary s).requests ≡ s.requests
-boundary-requests s = all_concluded-requests (after_fallbacks s) (waiting (after_fallbacks s)) ∙ standing-requests s s.fallbacks
+boundary-requests s =
+    all_concluded-requests (after_fallbacks s) (waiting (after_fallbacks s)) ∙ standing-requests s s.fallbacks
 
 -- after the close each request has an outcome
 pub close-decides : (s : State) → length (close_effect s).requests ≤ length (close_effect s).outcomes
@@ -188,7 +235,8 @@ close-decides s =
     let ended = map (λ (asked : Request). outcome.LoopEnded) (waiting s) in
     let all : length (s.outcomes ++ ended) ≡ length s.outcomes + length ended = length-append s.outcomes ended in
     let waited : length ended ≡ length (waiting s) = length-map (waiting s) (λ (asked : Request). outcome.LoopEnded) in
-    let left : length (waiting s) ≡ length s.requests - length s.outcomes = length-drop (length s.outcomes) s.requests in
+    let left : length (waiting s) ≡ length s.requests - length s.outcomes =
+    length-drop (length s.outcomes) s.requests in
     omega (arith, all, waited, left)
 
 -- ---- Where the loop is closed
@@ -210,7 +258,8 @@ never_unanswered s ListComponents written none = cc
 never_unanswered s _ written none = absurd written
 
 -- each is enabled there
-closed_enabled : (s : State) (who : ℕ) (call : Call) → s.closed ≡ true → nat_lt who s.sessions ≡ true → CanBeWritten call → is_enabled s who call ≡ true
+closed_enabled : (s : State) (who : ℕ) (call : Call) → s.closed ≡ true → nat_lt who s.sessions ≡ true
+    → CanBeWritten call → is_enabled s who call ≡ true
 closed_enabled s who (Told ticket) closed known written = absurd written
 closed_enabled s who (Await cycles) closed known written = rw (known, closed) (or-true (not (nat_lt s.ended cycles)))
 closed_enabled s who (Begin _) closed known written = absurd written
@@ -219,7 +268,8 @@ closed_enabled s who Close closed known written = absurd written
 closed_enabled s who _ closed known written = known
 
 -- a call that is enabled and has a reply is made
-step_made : (s : State) (who : ℕ) (call : Call) (r : Reply) → is_enabled s who call ≡ true → reply_of s call ≡ Some r → step s who call ≡ Some (answered s call r)
+step_made : (s : State) (who : ℕ) (call : Call) (r : Reply) → is_enabled s who call ≡ true → reply_of s call ≡ Some r
+    → step s who call ≡ Some (answered s call r)
 unfolding step
 step_made s who call r enabled replied = rw (enabled, replied) refl
 
@@ -227,23 +277,31 @@ abbrev pub IsMade : State → ℕ → Call → Type 0
 IsMade s who call = (reached : State × Reply) × (step s who call ≡ Some reached)
 
 -- a session makes there whatever its line says
-pub closed_made : (s : State) (who : ℕ) (call : Call) → s.closed ≡ true → nat_lt who s.sessions ≡ true → CanBeWritten call → IsMade s who call
+pub closed_made : (s : State) (who : ℕ) (call : Call) → s.closed ≡ true → nat_lt who s.sessions ≡ true
+    → CanBeWritten call → IsMade s who call
 closed_made s who call closed known written = elim (cases_Option (reply_of s call)) [
   | inl none ↦ absurd (never_unanswered s call written none)
-  | inr (r, replied) ↦ (answered s call r, step_made s who call r (closed_enabled s who call closed known written) replied)
+  | inr (r, replied) ↦ (
+    answered s call r,
+    step_made s who call r (closed_enabled s who call closed known written) replied,
+  )
 ]
 
 -- and is told what became of each request that is decided
-pub told_made : (s : State) (who ticket : ℕ) → nat_lt who s.sessions ≡ true → ticket < length s.outcomes → IsMade s who (Told ticket)
+pub told_made : (s : State) (who ticket : ℕ) → nat_lt who s.sessions ≡ true → ticket < length s.outcomes
+    → IsMade s who (Told ticket)
 told_made s who ticket known less = elim (slice_get_cases s.outcomes ticket).1 [
   | inr (past, none) ↦ absurd (omega (arith, past, less))
   | inl (became, inside, found, at) ↦
-      let decided : nat_lt ticket (length s.outcomes) ≡ true = grind (arith, nat_tests) in
-      (answered s (Told ticket) (reply.Outcome became), step_made s who (Told ticket) (reply.Outcome became) (rw (known, decided) refl) (rw found refl))
+      let decided : nat_lt ticket (length s.outcomes) ≡ true = grind (arith, nat_tests) in (
+        answered s (Told ticket) (reply.Outcome became),
+        step_made s who (Told ticket) (reply.Outcome became) (rw (known, decided) refl) (rw found refl),
+      )
 ]
 
 -- what is enabled for a step
-pub step-enabled : (s : State) (who : ℕ) (call : Call) (reached : State × Reply) → step s who call ≡ Some reached → is_enabled s who call ≡ true
+pub step-enabled : (s : State) (who : ℕ) (call : Call) (reached : State × Reply) → step s who call ≡ Some reached
+    → is_enabled s who call ≡ true
 unfolding step
 step-enabled s who call reached stepped = tested (is_enabled s who call) stepped
   where

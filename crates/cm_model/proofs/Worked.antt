@@ -11,7 +11,8 @@ use Rattle.cm_document.specs.declared.description.CompDesc.{CompDesc}
 use Rattle.cm_document.specs.declared.description.CompKind.TheVariants.{System}
 use Rattle.cm_document.specs.declared.description.CtlDesc.{CtlDesc}
 use Rattle.cm_document.specs.declared.description.Description.{Description}
-use Rattle.cm_document.specs.declared.description.Params.TheVariants.{Forward, Passthrough, Pid, Trajectory, Broadcaster, Mock}
+use Rattle.cm_document.specs.declared.description.Params.TheVariants.{Forward, Passthrough, Pid}
+use Rattle.cm_document.specs.declared.description.Params.TheVariants.{Trajectory, Broadcaster, Mock}
 use Rattle.cm_document.specs.declared.life.Life.TheVariants.{Unconfigured, Active}
 pub use Rattle.cm_model.proofs.WorkedCalls.{made}
 use Rattle.cm_model.proofs.WorkedCalls.{replies, after, ready}
@@ -36,13 +37,15 @@ pid_reference = Reference (codes "pid") (codes "j1") Position
 
 abbrev pub arm : CompDesc
 arm = a_component (codes "arm") System Active Unconfigured [] []
-    (a_joint (codes "j1") (pos 1000000) (pos 1000000) (pos 0) (pos 0) (pos 0) (Position ∷ Velocity ∷ []) (Position ∷ Velocity ∷ []) ∷ [])
+    (a_joint (codes "j1") (pos 1000000) (pos 1000000) (pos 0) (pos 0) (pos 0) (Position ∷ Velocity ∷ [])
+    (Position ∷ Velocity ∷ []) ∷ [])
 
 -- a forward, a pid, a trajectory above it, another trajectory, a broadcaster, a mock, and a passthrough above the pid
 abbrev pub controllers : List CtlDesc
 controllers =
     a_controller (codes "fwd") 0 (j1_position ∷ []) [] (Forward 1)
-    ∷ a_controller (codes "pid") 0 (j1_velocity ∷ []) (j1_position ∷ []) (Pid (pos 2000000) (pos 0) (pos 0) (pos 0) (pos 10000000))
+    ∷ a_controller (codes "pid") 0 (j1_velocity ∷ []) (j1_position ∷ [])
+    (Pid (pos 2000000) (pos 0) (pos 0) (pos 0) (pos 10000000))
     ∷ a_controller (codes "traj") 0 (pid_reference ∷ []) (j1_position ∷ []) (Trajectory 1)
     ∷ a_controller (codes "traj2") 0 (j1_position ∷ []) (j1_position ∷ []) (Trajectory 1)
     ∷ a_controller (codes "jsb") 0 [] (j1_position ∷ j1_velocity ∷ []) (Broadcaster 2)
@@ -60,12 +63,15 @@ stock = blanks_of_each 2
 
 -- the replies from boot on, once these are ready
 abbrev pub once_ready : List (List ℕ) → List Call → List (List ℕ)
-once_ready names calls = replies (record (names_in robot []) { controllers = names }) (after (boot robot stock 1) (ready names)) calls
+once_ready names calls =
+    replies (record (names_in robot []) { controllers = names }) (after (boot robot stock 1) (ready names)) calls
 
 -- calls as the moments of a history
 abbrev pub moments_of : State → List Call → List Moment
 moments_of s [] = []
-moments_of s (call ∷ calls) = record { before = s; call = call; reply = (made s call).1; after = (made s call).0 } ∷ moments_of (made s call).0 calls
+moments_of s (call ∷ calls) =
+    record { before = s; call = call; reply = (made s call).1; after = (made s call).0 }
+    ∷ moments_of (made s call).0 calls
 
 -- a loaded controller that runs, chained or not
 abbrev pub runs : ℕ → ℕ → Bool → Loaded
@@ -76,7 +82,8 @@ runs serial place chained =
       place = place;
       rate = 0;
       divisor = Some 1;
-      ctl = record { kind = kind_of params; params = Some params; run = Some (started params (pos 0 ∷ pos 0 ∷ []) chained) };
+      ctl = record
+          { kind = kind_of params; params = Some params; run = Some (started params (pos 0 ∷ pos 0 ∷ []) chained) };
       mail = None;
     }
 

@@ -16,7 +16,8 @@ use Rattle.cm_document.specs.declared.description.CtlDesc.{CtlDesc}
 use Rattle.cm_document.specs.declared.description.Description.{Description}
 use Rattle.cm_document.specs.declared.description.JointDesc.{JointDesc}
 use Rattle.cm_document.specs.declared.description.Params.{Params}
-use Rattle.cm_document.specs.declared.description.Params.TheVariants.{Forward, Passthrough, Pid, Trajectory, Broadcaster, Mock}
+use Rattle.cm_document.specs.declared.description.Params.TheVariants.{Forward, Passthrough, Pid}
+use Rattle.cm_document.specs.declared.description.Params.TheVariants.{Trajectory, Broadcaster, Mock}
 use Rattle.cm_document.specs.declared.life.Life.TheVariants.{Unconfigured, Inactive, Active, Finalized}
 use Rattle.cm_model.proofs.WorkedCalls.{replies, after, ready}
 use Rattle.cm_model.specs.Blanks.{blanks_of_each, with_one_more}
@@ -100,8 +101,8 @@ gains = Pid (pos 2000000) (pos 3000000) (pos 10000) (pos 500000) (pos 1500000)
 
 -- A trajectory, `plan`, stands above a passthrough, `pass`, and that above a pid, `servo`, and above l2: a chain of
 -- three on the lift. A mock, `aim`, which is not ready in cycle 1 and fails in cycle 4, stands above another
--- passthrough, `damp`, and claims w1 besides. Three forwards claim a joint of each component. A broadcaster tells of the
--- wrist alone. The other mock refuses to be configured. `servo` is updated in every second cycle, `scope` in every
+-- passthrough, `damp`, and claims w1 besides. Three forwards claim a joint of each component. A broadcaster tells of
+-- the wrist alone. The other mock refuses to be configured. `servo` is updated in every second cycle, `scope` in every
 -- third, all others in each: 200 by 90 is 2, rounded down, and 200 by 60 is 3.
 abbrev pub controllers : List CtlDesc
 controllers =

@@ -60,7 +60,8 @@ pub enum Outcome {
     LoopEnded,
 }
 
-/// What a begin or the close decided: a request, or that those are asked for that stand in for a controller whose update failed.
+/// What a begin or the close decided: a request, or that those are asked for that stand in for a controller whose
+/// update failed.
 #[derive(Clone, Debug, PartialEq, Eq, Drop)]
 pub struct Decision {
     /// The request's number, from 0; none where it is of those that stand in.

@@ -26,9 +26,9 @@ pub fn scheduled_histories_are_legal()
         → IsLegal document.description blanks (length document.script.sessions) (scheduled document blanks) }
 {}
 
-/// Each history that is scheduled for a document whose script meets the rules of scripts is whole for it: it has every session's
-/// lines, each once and in order, behind each request the Told of its ticket, the begin and the end of each cycle, the close, and
-/// nothing else.
+/// Each history that is scheduled for a document whose script meets the rules of scripts is whole for it: it has every
+/// session's lines, each once and in order, behind each request the Told of its ticket, the begin and the end of each
+/// cycle, the close, and nothing else.
 pub fn scheduled_histories_are_whole()
     ensures { (document : Document) (blanks : Blanks)
         → MeetsRules document.script → IsWhole document (scheduled document blanks) }
@@ -40,7 +40,8 @@ pub fn stepped_histories_are_legal()
         → IsLegal document.description blanks (length document.script.sessions) (scheduled_in_steps document blanks) }
 {}
 
-/// It is whole for a document whose script meets the rules: turns change the order in which sessions and loop go on, and no more.
+/// It is whole for a document whose script meets the rules: turns change the order in which sessions and loop go on,
+/// and no more.
 pub fn stepped_histories_are_whole()
     ensures { (document : Document) (blanks : Blanks)
         → MeetsRules document.script → IsWhole document (scheduled_in_steps document blanks) }
@@ -52,8 +53,8 @@ pub fn whole_histories_leave_the_loop_closed()
         → LegalFrom s history → IsWhole document history → (state_after s history).closed ≡ true }
 {}
 
-/// What is counted in a history adds up, and so never falls as the history grows: the cycles that have ended, and the decisions that were
-/// told. Of no entries both are 0.
+/// What is counted in a history adds up, and so never falls as the history grows: the cycles that have ended, and the
+/// decisions that were told. Of no entries both are 0.
 pub fn counts_add_up_and_never_fall()
     ensures none { (ends_in [] ≡ 0) × (decided_in [] ≡ 0) }
     ensures ends { (made more : List Entry) → ends_in (made ++ more) ≡ ends_in made + ends_in more }
@@ -102,7 +103,8 @@ pub fn cycles_tell_of_whom_they_update()
     ensures { (s : State) → map (λ ran. ran.serial) (cycle s).happened.ran ≡ map (λ l. l.serial) (updated_in s) }
 {}
 
-/// While no controller is active a cycle updates none and stops none, and its end changes no more than the components make of it.
+/// While no controller is active a cycle updates none and stops none, and its end changes no more than the components
+/// make of it.
 pub fn idle_cycles_are_of_components_alone()
     ensures { (s : State) → IsStill s → IsIdle s (cycle s) }
 {}

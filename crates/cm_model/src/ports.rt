@@ -2,7 +2,8 @@
 
 ghost use Rattle.std.specs.Prelude.{◌≡◌, IfOk, OnErr, MatchOption};
 ghost use Rattle.cm_document.specs.declared.call.Call.TheVariants as call;
-ghost use Rattle.cm_model.specs.Ports.{Console, LoopConsole, CanBeCalled, Makes, MakesNone, MakesOpen, MakesWhere, IsNotYet, CanBegin, CanClose, Begins, Lands, Closes};
+ghost use Rattle.cm_model.specs.Ports.{Console, LoopConsole, CanBeCalled, Makes, MakesNone, MakesOpen};
+ghost use Rattle.cm_model.specs.Ports.{MakesWhere, IsNotYet, CanBegin, CanClose, Begins, Lands, Closes};
 
 use crate::cause::Outcome;
 use crate::reply::Reply;
@@ -11,7 +12,8 @@ use fixed_num::Memory;
 
 /// One session's console.
 pub trait Port {
-    // What no call changes: plain data, the number of the session among them, and the state in which the history behind it begins.
+    // What no call changes: plain data, the number of the session among them, and the state in which the history behind
+    // it begins.
     ghost Ground: { Type 0 };
 
     ghost footing: { Self → Ground };
@@ -56,7 +58,8 @@ pub trait LoopPort {
     // What it tells of itself.
     ghost tells: { Self → LoopConsole };
 
-    // It is the flight that is out: a fact of what the console has made so far, which may speak of all states that look alike to it.
+    // It is the flight that is out: a fact of what the console has made so far, which may speak of all states that look
+    // alike to it.
     ghost is_out: { Self → Self.Flight → Type 0 };
 
     // A flight may be computed, and is computed.

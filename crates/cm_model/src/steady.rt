@@ -1,12 +1,13 @@
-//! Laws of what each step keeps, on the way to the law that every legal history is sound: each is the contract of a function that does
-//! nothing.
+//! Laws of what each step keeps, on the way to the law that every legal history is sound: each is the contract of a
+//! function that does nothing.
 
 ghost use Rattle.std.specs.Prelude.{◌≡◌, ℕ, List, length};
 ghost use Rattle.cm_document.specs.declared.call.Mail.{Mail};
 ghost use Rattle.cm_document.specs.declared.life.Life.{Life};
 ghost use Rattle.cm_model.specs.Boundary.{request_effect, close_effect};
 ghost use Rattle.cm_model.specs.Commit.{commit};
-ghost use Rattle.cm_model.specs.Console.{unless_refused, place_of, configure_reply, cleanup_reply, unload_reply, configure_effect, cleanup_effect, unload_effect, rate_effect, send_effect};
+ghost use Rattle.cm_model.specs.Console.{unless_refused, place_of, configure_reply, cleanup_reply, unload_reply};
+ghost use Rattle.cm_model.specs.Console.{configure_effect, cleanup_effect, unload_effect, rate_effect, send_effect};
 ghost use Rattle.cm_model.specs.Cycle.{moved, begun};
 ghost use Rattle.cm_model.specs.Machine.{load_refusals, load_effect};
 ghost use Rattle.cm_model.specs.Order.{Places};
@@ -29,8 +30,8 @@ pub fn a_commit_leaves_a_steady_state()
         → CanRunTogether s.description s.lives set → IsSteady (commit s set again) }
 {}
 
-/// Components may move without a loss of what holds whichever controllers are active; and where the active ones can still run
-/// together, a steady state stays steady.
+/// Components may move without a loss of what holds whichever controllers are active; and where the active ones can
+/// still run together, a steady state stays steady.
 pub fn moves_of_components_keep_a_state_in_order()
     ensures in_order { (s : State) (lives : List Life) → IsInOrder s → length lives ≡ length s.lives
         → IsInOrder (moved s lives) }

@@ -21,19 +21,23 @@ use Rattle.cm_places.specs.Placed.{placed_of, value_at, with_outputs}
 abbrev joint_with : List ℕ → List Kind → List Kind → JointDesc
 joint_with name commands states = a_joint name (pos 1000000) (pos 1000000) (pos 0) (pos 0) (pos 0) commands states
 
--- The board: at 0 and 1 velocity and position of j1, at 2 the position of j2, which is a state as these are; at 3 the effort that
--- drives j1, at 4 the position that drives j2; at 5 the reference of the passthrough, at 6 that of the pid.
+-- The board: at 0 and 1 velocity and position of j1, at 2 the position of j2, which is a state as these are; at 3 the
+-- effort that drives j1, at 4 the position that drives j2; at 5 the reference of the passthrough, at 6 that of the pid.
 abbrev arm : Description
 arm = a_description 1 100 2
     (a_component (codes "arm") System Active Unconfigured [] [] (
-    joint_with (codes "j1") (Effort ∷ []) (Velocity ∷ Position ∷ []) ∷ joint_with (codes "j2") (Position ∷ []) (Position ∷ []) ∷ []) ∷ [])
+    joint_with (codes "j1") (Effort ∷ []) (Velocity ∷ Position ∷ [])
+    ∷ joint_with (codes "j2") (Position ∷ []) (Position ∷ []) ∷ []) ∷ [])
     (a_controller (codes "through") 0 (Joint (codes "j1") Effort ∷ []) [] (Passthrough 1)
-    ∷ a_controller (codes "loop") 0 (Joint (codes "j2") Position ∷ []) (Joint (codes "j2") Position ∷ []) (Pid (pos 0) (pos 0) (pos 0) (pos 0) (pos 0))
-    ∷ a_controller (codes "lead") 0 (Reference (codes "loop") (codes "j2") Position ∷ Reference (codes "through") (codes "j1") Effort ∷ [])
+    ∷ a_controller (codes "loop") 0 (Joint (codes "j2") Position ∷ []) (Joint (codes "j2") Position ∷ [])
+    (Pid (pos 0) (pos 0) (pos 0) (pos 0) (pos 0))
+    ∷ a_controller (codes "lead") 0
+    (Reference (codes "loop") (codes "j2") Position ∷ Reference (codes "through") (codes "j1") Effort ∷ [])
     (Joint (codes "j1") Position ∷ Joint (codes "j1") Velocity ∷ []) (Forward 2)
     ∷ a_controller (codes "other") 0 (Joint (codes "j2") Position ∷ []) [] (Forward 1) ∷ [])
 
--- A state and a command of one name have places of their own; what is claimed twice has both its claimers; each list keeps its order.
+-- A state and a command of one name have places of their own; what is claimed twice has both its claimers; each list
+-- keeps its order.
 places_of_the_arm : placed_of arm ≡ record {
   reads = [] ∷ (2 ∷ []) ∷ (1 ∷ 0 ∷ []) ∷ [] ∷ [];
   references = (5 ∷ []) ∷ (6 ∷ []) ∷ [] ∷ [] ∷ [];
@@ -52,7 +56,8 @@ outputs_of_lead : held (with_outputs (map unset (interfaces_of arm)) (6 ∷ 5 �
     ≡ Unset ∷ Unset ∷ Unset ∷ Unset ∷ Unset ∷ Num (pos 7) ∷ Num (pos 3) ∷ []
 outputs_of_lead = refl
 
-outputs_by_name : held (given (Reference (codes "loop") (codes "j2") Position ∷ Reference (codes "through") (codes "j1") Effort ∷ [])
+outputs_by_name : held
+    (given (Reference (codes "loop") (codes "j2") Position ∷ Reference (codes "through") (codes "j1") Effort ∷ [])
     (Num (pos 3) ∷ Num (pos 7) ∷ []) (map unset (interfaces_of arm)))
     ≡ Unset ∷ Unset ∷ Unset ∷ Unset ∷ Unset ∷ Num (pos 7) ∷ Num (pos 3) ∷ []
 outputs_by_name = refl

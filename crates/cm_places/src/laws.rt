@@ -12,15 +12,16 @@ ghost use Rattle.cm_model.specs.Order.{Places, controller_at};
 ghost use Rattle.cm_model.specs.Scene.{claims_at, is_claimed_by};
 ghost use Rattle.cm_model.specs.Values.{InterfaceValue};
 ghost use Rattle.chain_order.specs.Links.{linked};
-ghost use Rattle.cm_places.specs.Placed.{exporter_of, placed_of, value_at, with_outputs, is_listed, AreValuesOf, AreFound, IsClaimOf, HasAllRows};
+ghost use Rattle.cm_places.specs.Placed.{exporter_of, placed_of, value_at, with_outputs, is_listed};
+ghost use Rattle.cm_places.specs.Placed.{AreValuesOf, AreFound, IsClaimOf, HasAllRows};
 
 /// There is a row of each kind for each described controller, and one of each kind for each interface.
 pub fn each_has_its_row()
     ensures { (d : Description) → HasAllRows d (placed_of d) }
 {}
 
-/// Each interface that a controller of a valid description reads, exports or claims has a place on the board, in the order of its
-/// list. What stands at the places of its claims it does claim.
+/// Each interface that a controller of a valid description reads, exports or claims has a place on the board, in the
+/// order of its list. What stands at the places of its claims it does claim.
 pub fn each_interface_has_its_place()
     ensures reads { (d : Description) (p : ℕ) → IsValid d
         → AreFound d (controller_at d.controllers p).reads (linked (placed_of d).reads p) }
@@ -31,8 +32,8 @@ pub fn each_interface_has_its_place()
     ensures claimed { (d : Description) (p : ℕ) → All (IsClaimOf d p) (linked (placed_of d).claims p) }
 {}
 
-/// What a controller of a valid description gets of the interfaces is what stands at its places, and what it gives out goes to the
-/// places of its claims, one output after the other.
+/// What a controller of a valid description gets of the interfaces is what stands at its places, and what it gives out
+/// goes to the places of its claims, one output after the other.
 pub fn places_serve_for_names()
     ensures states { (d : Description) (values : List InterfaceValue) (p : ℕ) → IsValid d → AreValuesOf d values
         → states_for values (controller_at d.controllers p)
@@ -45,8 +46,8 @@ pub fn places_serve_for_names()
         ≡ with_outputs values (linked (placed_of d).claims p) outs }
 {}
 
-/// The row of an interface has the controllers that claim it, and the one that exports it. So a member of a set of controllers claims
-/// it exactly where one of its row is a member.
+/// The row of an interface has the controllers that claim it, and the one that exports it. So a member of a set of
+/// controllers claims it exactly where one of its row is a member.
 pub fn each_place_knows_its_controllers()
     ensures claimers { (d : Description) (k : ℕ) (i : Interface) → slice_get (interfaces_of d) k ≡ Some i
         → i.called.is_command ≡ true

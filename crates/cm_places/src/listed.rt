@@ -2,7 +2,8 @@
 
 ghost use Rattle.std.specs.Prelude.{◌≡◌, ◌<◌, ◌^◌, ◌++◌, map, flat_map, length, IfOk, OnOk};
 ghost use Rattle.cm_document.specs.Places.{interfaces_of, kinds_of};
-ghost use Rattle.cm_places.specs.Listing.{listed_of, listed_at, listed_joint, listed_joints, listed_references, listed_controllers};
+ghost use Rattle.cm_places.specs.Listing.{listed_of, listed_at, listed_joint, listed_joints};
+ghost use Rattle.cm_places.specs.Listing.{listed_references, listed_controllers};
 
 use cm_document::{Checked, CompDesc, CtlDesc, JointDesc};
 use fixed_num::Memory;

@@ -12,8 +12,9 @@ use sequence::Seq;
 use std::alloc::Global;
 use std::marker::Model;
 
-/// For each described controller, by place, where what it reads, its references and what it claims stand on the board; and for each
-/// place on the board, who claims it and who exports it. It rests on the description alone, and is made once.
+/// For each described controller, by place, where what it reads, its references and what it claims stand on the board;
+/// and for each place on the board, who claims it and who exports it. It rests on the description alone, and is made
+/// once.
 #[derive(Debug, Drop)]
 pub struct CtlPlaces {
     reads: Seq<Seq<u32>>,

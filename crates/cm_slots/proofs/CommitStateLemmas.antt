@@ -25,29 +25,36 @@ map_alike {B = B} f g same (x ∷ xs) = ap₂ (λ (y : B) (ys : List B). y ∷ y
 
 -- ---- What a controller has of the interfaces
 
-pub numbers_are : (d : Description) (values : List InterfaceValue) (loans : List Loan) (p : ℕ) → IsValid d → IsShownOn loans d values
+pub numbers_are : (d : Description) (values : List InterfaceValue) (loans : List Loan) (p : ℕ) → IsValid d
+    → IsShownOn loans d values
     → numbers_at loans (linked (placed_of d).reads p) ≡ states_for values (controller_at d.controllers p)
 numbers_are d values loans p valid shown =
-    map_alike (λ (place : ℕ). number_in (loan_at loans place).value) (λ (place : ℕ). number_in (value_at values place)) (λ place. ap number_in (shown.held place))
+    map_alike (λ (place : ℕ). number_in (loan_at loans place).value) (λ (place : ℕ). number_in (value_at values place))
+    (λ place. ap number_in (shown.held place))
     (linked (placed_of d).reads p)
     ∙ sym (states_for-placed d valid values shown.described p)
 
 pub values_are : (d : Description) (values : List InterfaceValue) (loans : List Loan) (p : ℕ) → IsShownOn loans d values
     → held_at loans (linked (placed_of d).references p) ≡ refs_for values (controller_at d.controllers p)
 values_are d values loans p shown =
-    map_alike (λ (place : ℕ). (loan_at loans place).value) (value_at values) shown.held (linked (placed_of d).references p)
+    map_alike (λ (place : ℕ). (loan_at loans place).value) (value_at values) shown.held
+    (linked (placed_of d).references p)
     ∙ sym (refs_for-placed d values shown.described p)
 
 -- ---- A commit
 
-come_is : (s : State) (set : Places) (l : Loaded) (states : List ℤ) (chained : Bool) → states ≡ states_for s.values (described_of s l)
+come_is : (s : State) (set : Places) (l : Loaded) (states : List ℤ) (chained : Bool)
+    → states ≡ states_for s.values (described_of s l)
     → chained ≡ is_chained_in s.description.controllers set l.place → come states chained l ≡ coming s set l
 come_is s set l states chained same mark = rw (same, mark) refl
 
-module _ (s : State) (set again : Places) (loans : List Loan) (chains stops starts : List Bool) (valid : IsValid s.description) (shown : IsShownOn loans s.description s.values)
+module _ (s : State) (set again : Places) (loans : List Loan) (chains stops starts : List Bool)
+    (valid : IsValid s.description) (shown : IsShownOn loans s.description s.values)
     (told : TellCommit s set again chains stops starts) where
   -- of each controller
-  committed_one : (l : Loaded) → committed_at (placed_of s.description) loans chains stops starts l ≡ committed s set (is_stopped (scene_of s) set again) (is_started (scene_of s) set again) l
+  committed_one : (l : Loaded)
+      → committed_at (placed_of s.description) loans chains stops starts l
+      ≡ committed s set (is_stopped (scene_of s) set again) (is_started (scene_of s) set again) l
   committed_one l =
       let chained = ap (λ (test : Places). test l.place) told.chained in
       let stopped = ap (λ (test : Places). test l.place) told.stopped in
@@ -55,13 +62,15 @@ module _ (s : State) (set again : Places) (loans : List Loan) (chains stops star
       rw (chained, stopped, started) (either (is_started (scene_of s) set again l.place))
     where
       either : (b : Bool)
-          → (if b then come (numbers_at loans (linked (placed_of s.description).reads l.place)) (is_chained_in s.description.controllers set l.place) l
+          → (if b then come (numbers_at loans (linked (placed_of s.description).reads l.place))
+          (is_chained_in s.description.controllers set l.place) l
           else (if is_stopped (scene_of s) set again l.place then leaving l else l))
           ≡ (if b then coming s set l else (if is_stopped (scene_of s) set again l.place then leaving l else l))
       either true = come_is s set l _ _ (numbers_are s.description s.values loans l.place valid shown) refl
       either false = refl
 
-  pub committed_all : map (committed_at (placed_of s.description) loans chains stops starts) s.loaded ≡ (commit s set again).loaded
+  pub committed_all : map (committed_at (placed_of s.description) loans chains stops starts) s.loaded
+      ≡ (commit s set again).loaded
   unfolding commit
   committed_all = map_alike (committed_at (placed_of s.description) loans chains stops starts)
       (committed s set (is_stopped (scene_of s) set again) (is_started (scene_of s) set again)) committed_one s.loaded

@@ -1,5 +1,6 @@
 -- Where the loaded controllers of a steady state of a valid description stand.
-use Rattle.std.proofs.Common.{◌≡◌, ℕ, suc, ◌<◌, ◌≤◌, Bool, true, false, List, [], ◌∷◌, length, Option, Some, None, refl, sym, ap, ◌∙◌, true≢false, arith}
+use Rattle.std.proofs.Common.{◌≡◌, ℕ, suc, ◌<◌, ◌≤◌, Bool, true, false, List, [], ◌∷◌, length}
+use Rattle.std.proofs.Common.{Option, Some, None, refl, sym, ap, ◌∙◌, true≢false, arith}
 use Rattle.std.specs.Prelude.{◌||◌, if◌then◌else◌, IfSome}
 use Rattle.std.specs.List.{AllByRecursion, IsDistinct}
 use Rattle.std.proofs.lemmas.Option.{slice_get-get_or}
@@ -36,20 +37,25 @@ abbrev without_one : IfaceName → List IfaceName → List IfaceName
 without_one x [] = []
 without_one x (y ∷ ys) = if same_interface x y then ys else y ∷ without_one x ys
 
-without_count : (x : IfaceName) (ys : List IfaceName) → is_among x ys ≡ true → length ys ≡ suc (length (without_one x ys))
+without_count : (x : IfaceName) (ys : List IfaceName) → is_among x ys ≡ true
+    → length ys ≡ suc (length (without_one x ys))
 without_count x [] among = absurd (true≢false (sym among))
 without_count x (y ∷ ys) among = either (same_interface x y) among (without_count x ys)
   where
-    either : (b : Bool) → (b || is_among x ys) ≡ true → (is_among x ys ≡ true → length ys ≡ suc (length (without_one x ys)))
+    either : (b : Bool) → (b || is_among x ys) ≡ true
+        → (is_among x ys ≡ true → length ys ≡ suc (length (without_one x ys)))
         → suc (length ys) ≡ suc (length (if b then ys else y ∷ without_one x ys))
     either true among rest = refl
     either false among rest = ap suc (rest among)
 
-without_keeps : (x z : IfaceName) (ys : List IfaceName) → same_interface x z ≡ false → is_among z ys ≡ true → is_among z (without_one x ys) ≡ true
+without_keeps : (x z : IfaceName) (ys : List IfaceName) → same_interface x z ≡ false → is_among z ys ≡ true
+    → is_among z (without_one x ys) ≡ true
 without_keeps x z [] differ among = among
-without_keeps x z (y ∷ ys) differ among = either (same_interface x y) refl (same_interface z y) refl among (without_keeps x z ys differ)
+without_keeps x z (y ∷ ys) differ among =
+    either (same_interface x y) refl (same_interface z y) refl among (without_keeps x z ys differ)
   where
-    either : (b : Bool) → same_interface x y ≡ b → (c : Bool) → same_interface z y ≡ c → (c || is_among z ys) ≡ true → (is_among z ys ≡ true → is_among z (without_one x ys) ≡ true)
+    either : (b : Bool) → same_interface x y ≡ b → (c : Bool) → same_interface z y ≡ c → (c || is_among z ys) ≡ true
+        → (is_among z ys ≡ true → is_among z (without_one x ys) ≡ true)
         → is_among z (if b then ys else y ∷ without_one x ys) ≡ true
     either true e true f among rest =
         let one : x ≡ y = (same_interface-Decides x y).0 e in
@@ -59,7 +65,8 @@ without_keeps x z (y ∷ ys) differ among = either (same_interface x y) refl (sa
     either false e true f among rest = rw f refl
     either false e false f among rest = rw f (rest among)
 
-pub distinct_most : (xs ys : List IfaceName) → IsDistinct same_interface xs → AllByRecursion (λ x. is_among x ys ≡ true) xs → length xs ≤ length ys
+pub distinct_most : (xs ys : List IfaceName) → IsDistinct same_interface xs
+    → AllByRecursion (λ x. is_among x ys ≡ true) xs → length xs ≤ length ys
 unfolding IsDistinct
 distinct_most [] ys apart among = omega arith
 distinct_most (x ∷ xs) ys apart among =
@@ -67,7 +74,8 @@ distinct_most (x ∷ xs) ys apart among =
     let one = without_count x ys among.0 in
     omega (arith, less, one)
   where
-    others : (zs : List IfaceName) → AllByRecursion (λ z. same_interface x z ≡ false) zs → AllByRecursion (λ z. is_among z ys ≡ true) zs
+    others : (zs : List IfaceName) → AllByRecursion (λ z. same_interface x z ≡ false) zs
+        → AllByRecursion (λ z. is_among z ys ≡ true) zs
         → AllByRecursion (λ z. is_among z (without_one x ys) ≡ true) zs
     others [] apart among = tt
     others (z ∷ zs) apart among = (without_keeps x z ys apart.0 among.0, others zs apart.1 among.1)
@@ -104,7 +112,8 @@ module _ (d : Description) (ok : IsValid d) (l : Loaded) (described : l.place < 
       described_shape d ok l.place c (slice_get-get_or d.controllers l.place nobody described) (omega (arith, few))
 
   own_counts : (o : Option Params) → IfSome o (λ params. params ≡ c.params)
-      → IfSome o (λ params. AreItsCounts params (length (linked (placed_of d).reads l.place)) (length (linked (placed_of d).references l.place)) (length (linked (placed_of d).claims l.place)))
+      → IfSome o (λ params. AreItsCounts params (length (linked (placed_of d).reads l.place))
+      (length (linked (placed_of d).references l.place)) (length (linked (placed_of d).claims l.place)))
   own_counts None own = tt
   own_counts (Some params) own = rw (own, reads.count, references.count, claims.count) shape.counts
 

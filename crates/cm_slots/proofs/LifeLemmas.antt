@@ -43,10 +43,12 @@ pub active_is : (life : Life) (ctl : CtlData) → IsKept life ctl → is_running
 active_is life ctl h = active_in life ctl h.state
 
 -- so it is inactive in that state alone
-pub inactive_is : (life : Life) (ctl : CtlData) → IsKept life ctl → (is_configured life && not (is_running life)) ≡ (is_some ctl.params && not (is_some ctl.run))
+pub inactive_is : (life : Life) (ctl : CtlData) → IsKept life ctl
+    → (is_configured life && not (is_running life)) ≡ (is_some ctl.params && not (is_some ctl.run))
 inactive_is life ctl h = rw (configured_is life ctl h.state, active_in life ctl h.state) refl
 
-life_from : (params : Option Params) (r : Option RunData) (kind : _) (life : Life) → is_configured life ≡ is_some params → is_running life ≡ is_some r → (life ≡ Finalized → ⊥)
+life_from : (params : Option Params) (r : Option RunData) (kind : _) (life : Life) → is_configured life ≡ is_some params
+    → is_running life ≡ is_some r → (life ≡ Finalized → ⊥)
     → life ≡ life_of (record { kind = kind; params = params; run = r })
 life_from None None kind Unconfigured c a f = refl
 life_from None (Some x) kind Unconfigured c a f = cc
@@ -67,9 +69,12 @@ not_final Finalized ctl h e = h
 
 -- and the state is that of its data
 pub life_is : (life : Life) (ctl : CtlData) → IsKept life ctl → life ≡ life_of ctl
-life_is life ctl h = life_from ctl.params ctl.run ctl.kind life (configured_is life ctl h.state) (active_in life ctl h.state) (not_final life ctl h.state)
+life_is life ctl h =
+    life_from ctl.params ctl.run ctl.kind life (configured_is life ctl h.state) (active_in life ctl h.state)
+    (not_final life ctl h.state)
 
-idle_from : (ctl : CtlData) (p : Option Params) (r : Option RunData) → ctl.params ≡ p → ctl.run ≡ r → (is_some p && not (is_some r)) ≡ true → IsIdle ctl
+idle_from : (ctl : CtlData) (p : Option Params) (r : Option RunData) → ctl.params ≡ p → ctl.run ≡ r
+    → (is_some p && not (is_some r)) ≡ true → IsIdle ctl
 idle_from ctl None r params run e = cc
 idle_from ctl (Some p) None params run e = record { configured = rw params tt; idle = run }
 idle_from ctl (Some p) (Some r) params run e = cc
@@ -80,7 +85,8 @@ idle_where_inactive l e = idle_from l.ctl l.ctl.params l.ctl.run refl refl e
 
 -- what runs is in the state that is so
 pub kept_where_active : (life : Life) (ctl : CtlData) → IsKept life ctl → is_some ctl.run ≡ true → IsKept Active ctl
-kept_where_active life ctl h runs = subst (λ (l : Life). IsKept l ctl) (active_where life (active_in life ctl h.state ∙ runs)) h
+kept_where_active life ctl h runs =
+    subst (λ (l : Life). IsKept l ctl) (active_where life (active_in life ctl h.state ∙ runs)) h
   where
     active_where : (l : Life) → is_running l ≡ true → l ≡ Active
     active_where Unconfigured e = cc

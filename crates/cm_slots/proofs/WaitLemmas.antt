@@ -1,6 +1,8 @@
 -- That no mail waits where it is told so, whatever becomes of controllers.
-use Rattle.std.proofs.Common.{◌≡◌, ℕ, zero, suc, Bool, true, false, List, [], ◌∷◌, map, slice_set, Option, Some, None, true≢false, refl, sym, ap, ap₂, ◌∙◌}
-use Rattle.std.specs.Prelude.{◌||◌, ◌&&◌, if◌then◌else◌, slice_get, filter_map, option_map, OnOk, OnErr, Result, Ok, Err}
+use Rattle.std.proofs.Common.{◌≡◌, ℕ, zero, suc, Bool, true, false, List, [], ◌∷◌, map, slice_set}
+use Rattle.std.proofs.Common.{Option, Some, None, true≢false, refl, sym, ap, ap₂, ◌∙◌}
+use Rattle.std.specs.Prelude.{◌||◌, ◌&&◌, if◌then◌else◌, slice_get, filter_map}
+use Rattle.std.specs.Prelude.{option_map, OnOk, OnErr, Result, Ok, Err}
 use Rattle.std.specs.List.{AllByRecursion, cons_option, list_any}
 use Rattle.sequence.proofs.ListLemmas.{all_at, all_set}
 use Rattle.cm_document.proofs.DistinctLemmas.{all_so}
@@ -25,13 +27,16 @@ use Rattle.loan_board.specs.declared.board.Loan.{Loan}
 -- ---- One is changed
 
 -- it is set, and its mail stays as it is
-pub told_set : (waits : Bool) (ls : List Loaded) (i : ℕ) (old new : Loaded) → slice_get ls i ≡ Some old → new.mail ≡ old.mail → AllByRecursion (WaitsAsTold waits) ls
+pub told_set : (waits : Bool) (ls : List Loaded) (i : ℕ) (old new : Loaded) → slice_get ls i ≡ Some old
+    → new.mail ≡ old.mail → AllByRecursion (WaitsAsTold waits) ls
     → AllByRecursion (WaitsAsTold waits) (slice_set ls i new)
-told_set waits ls i old new at same told = all_set (WaitsAsTold waits) ls i new told (λ none. same ∙ all_at (WaitsAsTold waits) ls i old told at none)
+told_set waits ls i old new at same told =
+    all_set (WaitsAsTold waits) ls i new told (λ none. same ∙ all_at (WaitsAsTold waits) ls i old told at none)
 
 -- so does a configure, whether or not it is refused
 pub mail_after : (result : Result (Unit {0}) CfgFault) (l new : Loaded) (params : Params) (divisor : ℕ)
-    → OnOk result (new ≡ record l { ctl = configured l.ctl params; divisor = Some divisor }) → OnErr result (new ≡ l) → new.mail ≡ l.mail
+    → OnOk result (new ≡ record l { ctl = configured l.ctl params; divisor = Some divisor }) → OnErr result (new ≡ l)
+    → new.mail ≡ l.mail
 mail_after (Ok u) l new params divisor made kept = ap (λ (x : Loaded). x.mail) made
 mail_after (Err e) l new params divisor made kept = ap (λ (x : Loaded). x.mail) kept
 
@@ -43,27 +48,33 @@ told_of_some [] = tt
 told_of_some (l ∷ ls) = (λ none. absurd (true≢false none), told_of_some ls)
 
 -- a commit posts no mail
-pub told_committed : (waits : Bool) (placed : Placed) (loans : List Loan) (chained stopped started : List Bool) (ls : List Loaded) → AllByRecursion (WaitsAsTold waits) ls
+pub told_committed : (waits : Bool) (placed : Placed) (loans : List Loan) (chained stopped started : List Bool)
+    (ls : List Loaded) → AllByRecursion (WaitsAsTold waits) ls
     → AllByRecursion (WaitsAsTold waits) (map (committed_at placed loans chained stopped started) ls)
 told_committed waits placed loans chained stopped started ls told =
-    all_of_each (WaitsAsTold waits) (WaitsAsTold waits) (committed_at placed loans chained stopped started) (λ l before none. one (set_of started l.place) (set_of stopped l.place) l (before none)) ls told
+    all_of_each (WaitsAsTold waits) (WaitsAsTold waits) (committed_at placed loans chained stopped started)
+    (λ l before none. one (set_of started l.place) (set_of stopped l.place) l (before none)) ls told
   where
     one : (starts stops : Bool) (l : Loaded) → l.mail ≡ None
-        → (if starts then come (numbers_at loans (linked placed.reads l.place)) (set_of chained l.place) l else (if stops then leaving l else l)).mail ≡ None
+        → (if starts then come (numbers_at loans (linked placed.reads l.place)) (set_of chained l.place) l
+        else (if stops then leaving l else l)).mail ≡ None
     one true stops l none = refl
     one false true l none = refl
     one false false l none = none
 
 -- nor does a box that comes home
-told_with : (waits : Bool) (k : ℕ) (ctl : CtlData) (ls : List Loaded) → AllByRecursion (WaitsAsTold waits) ls → AllByRecursion (WaitsAsTold waits) (with_ctl k ctl ls)
+told_with : (waits : Bool) (k : ℕ) (ctl : CtlData) (ls : List Loaded) → AllByRecursion (WaitsAsTold waits) ls
+    → AllByRecursion (WaitsAsTold waits) (with_ctl k ctl ls)
 told_with waits k ctl [] told = tt
 told_with waits zero ctl (l ∷ ls) told = told
 told_with waits (suc k) ctl (l ∷ ls) told = (told.0, told_with waits k ctl ls told.1)
 
-pub told_parked : (waits : Bool) (ks : List ℕ) (ctls : List CtlData) (ls : List Loaded) → AllByRecursion (WaitsAsTold waits) ls → AllByRecursion (WaitsAsTold waits) (with_ctls ks ctls ls)
+pub told_parked : (waits : Bool) (ks : List ℕ) (ctls : List CtlData) (ls : List Loaded)
+    → AllByRecursion (WaitsAsTold waits) ls → AllByRecursion (WaitsAsTold waits) (with_ctls ks ctls ls)
 told_parked waits [] ctls ls told = told
 told_parked waits (k ∷ ks) [] ls told = told
-told_parked waits (k ∷ ks) (ctl ∷ ctls) ls told = told_with waits k ctl (with_ctls ks ctls ls) (told_parked waits ks ctls ls told)
+told_parked waits (k ∷ ks) (ctl ∷ ctls) ls told =
+    told_with waits k ctl (with_ctls ks ctls ls) (told_parked waits ks ctls ls told)
 
 -- ---- Mail that goes off
 
@@ -87,13 +98,16 @@ told_looked ls = either (list_any has_mail ls) refl
   where
     either : (some : Bool) → list_any has_mail ls ≡ some → AllByRecursion (WaitsAsTold some) ls
     either true is = told_of_some ls
-    either false is = all_so (λ (l : Loaded). l.mail ≡ None) (WaitsAsTold false) (λ l none told. none) ls (none_has ls is)
+    either false is =
+        all_so (λ (l : Loaded). l.mail ≡ None) (WaitsAsTold false) (λ l none told. none) ls (none_has ls is)
 
 -- where none waits, none goes off,
-pub none_goes : (s : State) (ls : List Loaded) → AllByRecursion (WaitsAsTold false) ls → map (without_mail_off s) ls ≡ ls
+pub none_goes : (s : State) (ls : List Loaded) → AllByRecursion (WaitsAsTold false) ls
+    → map (without_mail_off s) ls ≡ ls
 none_goes s [] told = refl
 none_goes s (l ∷ ls) told =
-    ap₂ (λ (m : Loaded) (ms : List Loaded). m ∷ ms) (one (is_active l && is_due_now s l) (told.0 refl)) (none_goes s ls told.1)
+    ap₂ (λ (m : Loaded) (ms : List Loaded). m ∷ ms) (one (is_active l && is_due_now s l) (told.0 refl))
+    (none_goes s ls told.1)
   where
     one : (goes : Bool) → l.mail ≡ None → (if goes then record l { mail = None } else l) ≡ l
     one true none = ap (λ (mail : Option Mail). record l { mail = mail }) (sym none)
@@ -103,7 +117,8 @@ none_goes s (l ∷ ls) told =
 pub none_off : (s : State) (ls : List Loaded) → AllByRecursion (WaitsAsTold false) ls → filter_map (mail_off s) ls ≡ []
 none_off s [] told = refl
 none_off s (l ∷ ls) told =
-    ap₂ (λ (first : Option MailAloft) (rest : List MailAloft). cons_option first rest) (one (is_active l && is_due_now s l) (told.0 refl)) (none_off s ls told.1)
+    ap₂ (λ (first : Option MailAloft) (rest : List MailAloft). cons_option first rest)
+    (one (is_active l && is_due_now s l) (told.0 refl)) (none_off s ls told.1)
   where
     aloft : Mail → MailAloft
     aloft mail = record { serial = l.serial; mail = mail }

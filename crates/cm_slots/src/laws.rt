@@ -19,8 +19,8 @@ ghost use Rattle.ctl_trait.specs.Taking.{CanTake};
 ghost use Rattle.cm_slots.specs.Fit.{AreFit};
 ghost use Rattle.cm_slots.specs.Connections.{widest, IsConnected, HasRoom};
 
-/// A loaded controller of a valid description, with its own parameters, stands on the board of that description, and there is room for
-/// what it has.
+/// A loaded controller of a valid description, with its own parameters, stands on the board of that description, and
+/// there is room for what it has.
 pub fn own_controllers_are_connected()
     ensures connected { (d : Description) (l : Loaded) → IsValid d → l.place < length d.controllers
         → IsOwn d.controllers l
@@ -36,7 +36,8 @@ pub fn mail_that_fits_can_be_taken()
         → option_map_or (λ params. takes params mail) l.ctl.params false ≡ true → CanTake l.ctl mail }
 {}
 
-/// Controllers are in time and their mail fits after a commit, after a begin, and when a cycle has landed, where it was so before.
+/// Controllers are in time and their mail fits after a commit, after a begin, and when a cycle has landed, where it was
+/// so before.
 pub fn controllers_stay_fit()
     ensures committed { (s : State) (set again : Places) → s.mails ≡ [] → AreFit s → AreFit (commit s set again) }
     ensures begun { (s : State) → IsNumbered s → s.mails ≡ [] → AreFit s → AreFit (begun s) }

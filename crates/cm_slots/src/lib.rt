@@ -1,5 +1,5 @@
-//! The loaded controllers: one in its slot, all with their boxes, and what becomes of them at a commit, and when a cycle takes off and
-//! comes home.
+//! The loaded controllers: one in its slot, all with their boxes, and what becomes of them at a commit, and when a
+//! cycle takes off and comes home.
 #![tactic(auto)]
 
 pub use mails::{MailAloft, take_mail};

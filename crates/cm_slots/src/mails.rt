@@ -3,7 +3,8 @@
 ghost use Rattle.std.specs.Prelude.{◌≡◌, ◌<◌, ◌≤◌, ◌+◌, ◌==◌, length, map, position, IfSome, vec_len, vec_capacity};
 ghost use Rattle.std.specs.List.{AllByRecursion, list_any};
 ghost use Rattle.cm_slots.specs.Calls.Mails.{HasSent};
-ghost use Rattle.cm_slots.specs.Mails.{has_mail, mail_in, without_mail, is_due_in, goes_aloft, without_sent, with_all_sent};
+ghost use Rattle.cm_slots.specs.Mails.{has_mail, mail_in, without_mail, is_due_in};
+ghost use Rattle.cm_slots.specs.Mails.{goes_aloft, without_sent, with_all_sent};
 ghost use Rattle.cm_slots.specs.Updates.{HasTime};
 
 use crate::slot::Slot;

@@ -10,7 +10,8 @@ use fixed_num::{Fx, Memory, Value};
 use std::alloc::Global;
 use std::marker::Model;
 
-/// Room for the states of one controller after the other. What stands in it says nothing. Contracts see how many there is room for.
+/// Room for the states of one controller after the other. What stands in it says nothing. Contracts see how many there
+/// is room for.
 #[derive(Debug, Drop)]
 pub struct Room {
     pub(crate) states: Vec<Fx>,

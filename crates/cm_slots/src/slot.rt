@@ -4,7 +4,8 @@ ghost use Rattle.std.specs.Prelude.{◌≡◌, ◌↔◌, ℤ, Bool, List, true,
 ghost use Rattle.cm_document.specs.declared.life.Life.TheVariants.{Active};
 ghost use Rattle.cm_model.specs.Commit.{leaving};
 ghost use Rattle.cm_model.specs.Console.{is_inactive, after_cleanup, after_rate, after_send};
-ghost use Rattle.cm_model.specs.Controllers.{activated, configured, is_ready, IsBlank, IsIdle, IsRunning, CanBeConfigured, CanBeActivated};
+ghost use Rattle.cm_model.specs.Controllers.{activated, configured, is_ready, IsBlank, IsIdle};
+ghost use Rattle.cm_model.specs.Controllers.{IsRunning, CanBeConfigured, CanBeActivated};
 ghost use Rattle.cm_model.specs.Kinds.{is_refused};
 ghost use Rattle.cm_model.specs.Scene.{is_running, is_configured};
 ghost use Rattle.cm_model.specs.State.{is_active, life_of};
@@ -19,8 +20,8 @@ use std::alloc::Global;
 use std::marker::Model;
 use std::snapshot::Snapshot;
 
-/// A loaded controller in its slot: what the manager keeps of it beside its box, which stands apart, since it leaves for a cycle.
-/// Contracts see both (`Loaded`).
+/// A loaded controller in its slot: what the manager keeps of it beside its box, which stands apart, since it leaves
+/// for a cycle. Contracts see both (`Loaded`).
 #[derive(Drop)]
 pub struct Slot<C: Controller> {
     serial: u32,
@@ -147,8 +148,8 @@ impl<C: Controller> Slot<C> {
         self.ctl = Snapshot::of(ctl);
     }
 
-    /// It gets these parameters, of its kind, in place of those that it has, and is updated once in so many cycles. It refuses exactly
-    /// where they say so; with any fault it stays as it was.
+    /// It gets these parameters, of its kind, in place of those that it has, and is updated once in so many cycles. It
+    /// refuses exactly where they say so; with any fault it stays as it was.
     pub(crate) fn configure(
         &mut self,
         box_slot: &mut Option<C>,
@@ -201,8 +202,8 @@ impl<C: Controller> Slot<C> {
         self.mail = Some(mail);
     }
 
-    /// It comes to run with its box, with the states of this moment, one for each that it reads, and told whether it takes its references
-    /// from the interfaces. No mail waits for it any more. It takes no memory.
+    /// It comes to run with its box, with the states of this moment, one for each that it reads, and told whether it
+    /// takes its references from the interfaces. No mail waits for it any more. It takes no memory.
     #[tactic(auto, using(crate::proofs::StepLemmas::kept_once_activated))]
     fn activate(&mut self, box_slot: &mut Option<C>, states: &[Fx], chained: bool)
         requires home { option_map C.meaning box_slot.old ≡ Some self.old.ctl }
@@ -250,8 +251,8 @@ impl<C: Controller> Slot<C> {
         }
     }
 
-    /// It comes to run with these states, whether it ran before or not, where it is configured, and no mail waits for it. It takes no
-    /// memory.
+    /// It comes to run with these states, whether it ran before or not, where it is configured, and no mail waits for
+    /// it. It takes no memory.
     pub(crate) fn come(&mut self, box_slot: &mut Option<C>, states: &[Fx], chained: bool)
         requires home { option_map C.meaning box_slot.old ≡ Some self.old.ctl }
         requires can { CanCome (length states.now) self.old }

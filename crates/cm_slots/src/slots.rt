@@ -1,6 +1,8 @@
 //! The loaded controllers, in their slots.
 
-ghost use Rattle.std.specs.Prelude.{◌≡◌, ◌<◌, ◌≤◌, ◌+◌, ◌++◌, ◌∷◌, [], ◌↔◌, true, false, length, map, filter_map, slice_get, slice_set, None, Some, Err, OnOk, OnErr, IsSomeAnd, vec_len, vec_capacity};
+ghost use Rattle.std.specs.Prelude.{◌≡◌, ◌<◌, ◌≤◌, ◌+◌, ◌++◌, ◌∷◌, [], ◌↔◌, true, false};
+ghost use Rattle.std.specs.Prelude.{length, map, filter_map, slice_get, slice_set, None, Some};
+ghost use Rattle.std.specs.Prelude.{Err, OnOk, OnErr, IsSomeAnd, vec_len, vec_capacity};
 ghost use Rattle.std.specs.List.{AllByRecursion, remove};
 ghost use Rattle.cm_document.specs.Valid.{IsValid};
 ghost use Rattle.cm_model.specs.Commit.{commit};
@@ -31,8 +33,8 @@ use fixed_num::Memory;
 use std::alloc::Global;
 use std::marker::Model;
 
-/// The loaded controllers, by serial, and their boxes. While a cycle is aloft the boxes of those that run are away with it, and all others
-/// stand here. Contracts see it as `Slotted`.
+/// The loaded controllers, by serial, and their boxes. While a cycle is aloft the boxes of those that run are away with
+/// it, and all others stand here. Contracts see it as `Slotted`.
 #[derive(Drop)]
 pub struct Slots<C: Controller> {
     slots: Vec<Slot<C>>,
@@ -120,8 +122,8 @@ impl<C: Controller> Slots<C> {
         self.boxes.push_reserved(Some(blank));
     }
 
-    /// The controller at this index gets these parameters, of its kind, in place of those that it has, and is updated once in so many
-    /// cycles. It refuses exactly where they say so; with any fault all stays as it was.
+    /// The controller at this index gets these parameters, of its kind, in place of those that it has, and is updated
+    /// once in so many cycles. It refuses exactly where they say so; with any fault all stays as it was.
     pub fn configure(
         &mut self,
         index: usize,
@@ -191,9 +193,9 @@ impl<C: Controller> Slots<C> {
         self.slots[index].is_ready(&self.boxes[index], cycle)
     }
 
-    /// A set of controllers becomes active: those that are stopped are deactivated, and those that are started activated, with the states of
-    /// this moment and chained as these flags say; one that is both restarts. Their mail is emptied, and all others stay as they are. It
-    /// takes no memory.
+    /// A set of controllers becomes active: those that are stopped are deactivated, and those that are started
+    /// activated, with the states of this moment and chained as these flags say; one that is both restarts. Their mail
+    /// is emptied, and all others stay as they are. It takes no memory.
     pub fn commit(
         &mut self,
         hardware: &ResourceManager,
@@ -223,8 +225,8 @@ impl<C: Controller> Slots<C> {
         );
     }
 
-    /// The cycle of this number begins: the mail of each active controller that is due in it goes aloft. There is room for it: the call
-    /// takes no memory.
+    /// The cycle of this number begins: the mail of each active controller that is due in it goes aloft. There is room
+    /// for it: the call takes no memory.
     pub fn send_off(&mut self, cycle: u64, mails: &mut Vec<MailAloft>)
         requires room { vec_len mails.old + length self.old.loaded ≤ vec_capacity mails.old }
         requires time { AllByRecursion HasTime self.old.loaded }
@@ -240,8 +242,8 @@ impl<C: Controller> Slots<C> {
         }
     }
 
-    /// A cycle takes off: the boxes of the controllers that run are lent for it, which stand at these indices in the order of updates. It
-    /// takes no memory.
+    /// A cycle takes off: the boxes of the controllers that run are lent for it, which stand at these indices in the
+    /// order of updates. It takes no memory.
     pub fn lend(&mut self, run: &[u32], boxes: &mut Vec<C>)
         requires { CanLend self.old run.now (map C.meaning boxes.old.items) (vec_capacity boxes.old) }
         ensures lent { HasLent self.old self.new run.now (map C.meaning boxes.new.items) }
@@ -251,7 +253,8 @@ impl<C: Controller> Slots<C> {
         self.aloft = true;
     }
 
-    /// The cycle has come home: the boxes that were lent for it stand in their slots again, at these indices. It takes no memory.
+    /// The cycle has come home: the boxes that were lent for it stand in their slots again, at these indices. It takes
+    /// no memory.
     pub fn park(&mut self, run: &[u32], boxes: &mut Vec<C>)
         requires { CanPark self.old run.now (map C.meaning boxes.old.items) }
         ensures parked { HasParked self.old self.new run.now (map C.meaning boxes.old.items) }

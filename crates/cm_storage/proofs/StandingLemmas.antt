@@ -17,5 +17,6 @@ pub told_again : (cycle : ℕ) (list told : List BodyState) → list ≡ told �
 told_again cycle list told same = ap (λ (bodies : List BodyState). bodies_in cycle bodies) same
 
 -- where bodies alone are told, there is nothing to tell if there is none
-pub tells_no_body : (cycle : ℕ) (bodies : List BodyState) → tells_nothing (bodies_in cycle bodies) ≡ (length bodies == 0)
+pub tells_no_body : (cycle : ℕ) (bodies : List BodyState)
+    → tells_nothing (bodies_in cycle bodies) ≡ (length bodies == 0)
 tells_no_body cycle bodies = and-true (length bodies == 0)

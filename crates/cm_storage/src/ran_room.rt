@@ -7,7 +7,8 @@ use fixed_num::{Fx, StoredValue, Value};
 use std::alloc::{AllocError, Global};
 use std::marker::Model;
 
-/// The list of updated controllers while it is filled, within room that was reserved for controllers, values and numbers.
+/// The list of updated controllers while it is filled, within room that was reserved for controllers, values and
+/// numbers.
 #[derive(Debug, Drop)]
 pub struct RanRoom {
     heads: Vec<RanHead>,

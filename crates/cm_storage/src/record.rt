@@ -49,8 +49,8 @@ impl CycleParts {
     }
 }
 
-/// What happened in one cycle. Contracts see its parts. A cycle of which there is nothing to tell takes no memory, nor does one of bodies
-/// that stand.
+/// What happened in one cycle. Contracts see its parts. A cycle of which there is nothing to tell takes no memory, nor
+/// does one of bodies that stand.
 #[derive(Clone, Debug, Drop)]
 pub struct CycleRecord {
     held: Held,

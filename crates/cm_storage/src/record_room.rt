@@ -67,8 +67,8 @@ impl RecordRoom {
         })
     }
 
-    /// The record of the cycle of this number, with all that was filled in; and the place for its parts, where there was nothing
-    /// to tell. It takes no memory.
+    /// The record of the cycle of this number, with all that was filled in; and the place for its parts, where there
+    /// was nothing to tell. It takes no memory.
     #[tactic(auto, using(crate::proofs::RanLemmas::nothing_happened))]
     pub fn land(self, cycle: u64) -> (CycleRecord, Option<Box<CycleParts>>)
         ensures { result.0 ≡ record {

@@ -10,8 +10,8 @@ use sequence::{Seq, Shared};
 use std::alloc::{AllocError, Global};
 use std::marker::Model;
 
-/// The bodies that were told last where nothing else was, and a list of them to be shared by the records of the cycles in which they stand.
-/// Contracts see the bodies, and whether a list is ready for the next record.
+/// The bodies that were told last where nothing else was, and a list of them to be shared by the records of the cycles
+/// in which they stand. Contracts see the bodies, and whether a list is ready for the next record.
 #[derive(Debug, Drop)]
 pub struct Standing {
     told: Vec<BodyState>,
@@ -76,8 +76,8 @@ impl Standing {
         Ok(())
     }
 
-    /// The record of the cycle of this number, in which these bodies alone were told, if a list of them is ready. Else they are those that
-    /// were told last from now on, where there is room for them. It takes no memory.
+    /// The record of the cycle of this number, in which these bodies alone were told, if a list of them is ready. Else
+    /// they are those that were told last from now on, where there is room for them. It takes no memory.
     pub fn tell(&mut self, cycle: u64, bodies: &[BodyState]) -> Option<CycleRecord>
         ensures told { IfSome result (λ made. made ≡ bodies_in cycle bodies.now) }
         ensures ready { self.old.told ≡ bodies.now → cycle < 2 ^ 32 → is_some result ≡ self.old.is_ready }

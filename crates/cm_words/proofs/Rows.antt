@@ -61,11 +61,13 @@ hyphens_and_live : asked (codes "--" ∷ codes "live" ∷ []) ≡ Ok (record { k
 unfolding given clap_on_literals
 hyphens_and_live = refl
 
-upgrade_and_hyphens : asked (codes "upgrade" ∷ codes "--" ∷ []) ≡ Ok (record { kind = Upgrade; make = None; workers = 1 })
+upgrade_and_hyphens : asked (codes "upgrade" ∷ codes "--" ∷ [])
+    ≡ Ok (record { kind = Upgrade; make = None; workers = 1 })
 unfolding given clap_on_literals
 upgrade_and_hyphens = refl
 
-hyphens_and_upgrade : asked (codes "--" ∷ codes "upgrade" ∷ []) ≡ Ok (record { kind = Upgrade; make = None; workers = 1 })
+hyphens_and_upgrade : asked (codes "--" ∷ codes "upgrade" ∷ [])
+    ≡ Ok (record { kind = Upgrade; make = None; workers = 1 })
 unfolding given clap_on_literals
 hyphens_and_upgrade = refl
 
@@ -86,30 +88,57 @@ unfolding given clap_on_literals
 hyphens_and_plan = refl
 
 -- so the words of each job ask for it
-around_accepted : (kind : JobKind) (words : List Text) → IsAround (word_for kind) words → asked words ≡ Ok (record { kind = kind; make = None; workers = 1 })
-around_accepted Run words (inl e) = subst (λ (t : List Text). asked t ≡ Ok (record { kind = Run; make = None; workers = 1 })) (sym e) run
-around_accepted Run words (inr (inl e)) = subst (λ (t : List Text). asked t ≡ Ok (record { kind = Run; make = None; workers = 1 })) (sym e) hyphens_and_run
-around_accepted Run words (inr (inr e)) = subst (λ (t : List Text). asked t ≡ Ok (record { kind = Run; make = None; workers = 1 })) (sym e) run_and_hyphens
-around_accepted Steps words (inl e) = subst (λ (t : List Text). asked t ≡ Ok (record { kind = Steps; make = None; workers = 1 })) (sym e) steps
-around_accepted Steps words (inr (inl e)) = subst (λ (t : List Text). asked t ≡ Ok (record { kind = Steps; make = None; workers = 1 })) (sym e) hyphens_and_steps
-around_accepted Steps words (inr (inr e)) = subst (λ (t : List Text). asked t ≡ Ok (record { kind = Steps; make = None; workers = 1 })) (sym e) steps_and_hyphens
-around_accepted Live words (inl e) = subst (λ (t : List Text). asked t ≡ Ok (record { kind = Live; make = None; workers = 1 })) (sym e) live
-around_accepted Live words (inr (inl e)) = subst (λ (t : List Text). asked t ≡ Ok (record { kind = Live; make = None; workers = 1 })) (sym e) hyphens_and_live
-around_accepted Live words (inr (inr e)) = subst (λ (t : List Text). asked t ≡ Ok (record { kind = Live; make = None; workers = 1 })) (sym e) live_and_hyphens
-around_accepted Upgrade words (inl e) = subst (λ (t : List Text). asked t ≡ Ok (record { kind = Upgrade; make = None; workers = 1 })) (sym e) upgrade
-around_accepted Upgrade words (inr (inl e)) = subst (λ (t : List Text). asked t ≡ Ok (record { kind = Upgrade; make = None; workers = 1 })) (sym e) hyphens_and_upgrade
-around_accepted Upgrade words (inr (inr e)) = subst (λ (t : List Text). asked t ≡ Ok (record { kind = Upgrade; make = None; workers = 1 })) (sym e) upgrade_and_hyphens
-around_accepted Check words (inl e) = subst (λ (t : List Text). asked t ≡ Ok (record { kind = Check; make = None; workers = 1 })) (sym e) check
-around_accepted Check words (inr (inl e)) = subst (λ (t : List Text). asked t ≡ Ok (record { kind = Check; make = None; workers = 1 })) (sym e) hyphens_and_check
-around_accepted Check words (inr (inr e)) = subst (λ (t : List Text). asked t ≡ Ok (record { kind = Check; make = None; workers = 1 })) (sym e) check_and_hyphens
-around_accepted Plan words (inl e) = subst (λ (t : List Text). asked t ≡ Ok (record { kind = Plan; make = None; workers = 1 })) (sym e) plan
-around_accepted Plan words (inr (inl e)) = subst (λ (t : List Text). asked t ≡ Ok (record { kind = Plan; make = None; workers = 1 })) (sym e) hyphens_and_plan
-around_accepted Plan words (inr (inr e)) = subst (λ (t : List Text). asked t ≡ Ok (record { kind = Plan; make = None; workers = 1 })) (sym e) plan_and_hyphens
+around_accepted : (kind : JobKind) (words : List Text) → IsAround (word_for kind) words
+    → asked words ≡ Ok (record { kind = kind; make = None; workers = 1 })
+around_accepted Run words (inl e) =
+    subst (λ (t : List Text). asked t ≡ Ok (record { kind = Run; make = None; workers = 1 })) (sym e) run
+around_accepted Run words (inr (inl e)) =
+    subst (λ (t : List Text). asked t ≡ Ok (record { kind = Run; make = None; workers = 1 })) (sym e) hyphens_and_run
+around_accepted Run words (inr (inr e)) =
+    subst (λ (t : List Text). asked t ≡ Ok (record { kind = Run; make = None; workers = 1 })) (sym e) run_and_hyphens
+around_accepted Steps words (inl e) =
+    subst (λ (t : List Text). asked t ≡ Ok (record { kind = Steps; make = None; workers = 1 })) (sym e) steps
+around_accepted Steps words (inr (inl e)) =
+    subst (λ (t : List Text). asked t ≡ Ok (record { kind = Steps; make = None; workers = 1 })) (sym e)
+    hyphens_and_steps
+around_accepted Steps words (inr (inr e)) =
+    subst (λ (t : List Text). asked t ≡ Ok (record { kind = Steps; make = None; workers = 1 })) (sym e)
+    steps_and_hyphens
+around_accepted Live words (inl e) =
+    subst (λ (t : List Text). asked t ≡ Ok (record { kind = Live; make = None; workers = 1 })) (sym e) live
+around_accepted Live words (inr (inl e)) =
+    subst (λ (t : List Text). asked t ≡ Ok (record { kind = Live; make = None; workers = 1 })) (sym e) hyphens_and_live
+around_accepted Live words (inr (inr e)) =
+    subst (λ (t : List Text). asked t ≡ Ok (record { kind = Live; make = None; workers = 1 })) (sym e) live_and_hyphens
+around_accepted Upgrade words (inl e) =
+    subst (λ (t : List Text). asked t ≡ Ok (record { kind = Upgrade; make = None; workers = 1 })) (sym e) upgrade
+around_accepted Upgrade words (inr (inl e)) =
+    subst (λ (t : List Text). asked t ≡ Ok (record { kind = Upgrade; make = None; workers = 1 })) (sym e)
+    hyphens_and_upgrade
+around_accepted Upgrade words (inr (inr e)) =
+    subst (λ (t : List Text). asked t ≡ Ok (record { kind = Upgrade; make = None; workers = 1 })) (sym e)
+    upgrade_and_hyphens
+around_accepted Check words (inl e) =
+    subst (λ (t : List Text). asked t ≡ Ok (record { kind = Check; make = None; workers = 1 })) (sym e) check
+around_accepted Check words (inr (inl e)) =
+    subst (λ (t : List Text). asked t ≡ Ok (record { kind = Check; make = None; workers = 1 })) (sym e)
+    hyphens_and_check
+around_accepted Check words (inr (inr e)) =
+    subst (λ (t : List Text). asked t ≡ Ok (record { kind = Check; make = None; workers = 1 })) (sym e)
+    check_and_hyphens
+around_accepted Plan words (inl e) =
+    subst (λ (t : List Text). asked t ≡ Ok (record { kind = Plan; make = None; workers = 1 })) (sym e) plan
+around_accepted Plan words (inr (inl e)) =
+    subst (λ (t : List Text). asked t ≡ Ok (record { kind = Plan; make = None; workers = 1 })) (sym e) hyphens_and_plan
+around_accepted Plan words (inr (inr e)) =
+    subst (λ (t : List Text). asked t ≡ Ok (record { kind = Plan; make = None; workers = 1 })) (sym e) plan_and_hyphens
 
 pub listed_accepted : (words : List Text) (job : Job) → IsListed words job → asked words ≡ Ok job
 listed_accepted words job listed =
-    subst (λ (make : Option ℕ). asked words ≡ Ok (record { kind = job.kind; make = make; workers = job.workers })) (sym listed.reads)
-    (subst (λ (count : ℕ). asked words ≡ Ok (record { kind = job.kind; make = None; workers = count })) (sym listed.alone) (around_accepted job.kind words listed.around))
+    subst (λ (make : Option ℕ). asked words ≡ Ok (record { kind = job.kind; make = make; workers = job.workers }))
+    (sym listed.reads)
+    (subst (λ (count : ℕ). asked words ≡ Ok (record { kind = job.kind; make = None; workers = count }))
+    (sym listed.alone) (around_accepted job.kind words listed.around))
 
 -- ---- Accepted with a number of rounds
 
@@ -117,50 +146,61 @@ making : asked (codes "run" ∷ codes "--make" ∷ codes "1" ∷ []) ≡ Ok (rec
 unfolding given clap_on_literals
 making = refl
 
-making_the_most : asked (codes "steps" ∷ codes "--make" ∷ codes "1000" ∷ []) ≡ Ok (record { kind = Steps; make = Some 1000; workers = 1 })
+making_the_most : asked (codes "steps" ∷ codes "--make" ∷ codes "1000" ∷ [])
+    ≡ Ok (record { kind = Steps; make = Some 1000; workers = 1 })
 unfolding given clap_on_literals
 making_the_most = refl
 
-making_first : asked (codes "--make" ∷ codes "5" ∷ codes "run" ∷ []) ≡ Ok (record { kind = Run; make = Some 5; workers = 1 })
+making_first : asked (codes "--make" ∷ codes "5" ∷ codes "run" ∷ [])
+    ≡ Ok (record { kind = Run; make = Some 5; workers = 1 })
 unfolding given clap_on_literals
 making_first = refl
 
-making_with_a_sign : asked (codes "run" ∷ codes "--make=5" ∷ []) ≡ Ok (record { kind = Run; make = Some 5; workers = 1 })
+making_with_a_sign : asked (codes "run" ∷ codes "--make=5" ∷ [])
+    ≡ Ok (record { kind = Run; make = Some 5; workers = 1 })
 unfolding given clap_on_literals
 making_with_a_sign = refl
 
-making_with_a_sign_first : asked (codes "--make=5" ∷ codes "steps" ∷ []) ≡ Ok (record { kind = Steps; make = Some 5; workers = 1 })
+making_with_a_sign_first : asked (codes "--make=5" ∷ codes "steps" ∷ [])
+    ≡ Ok (record { kind = Steps; make = Some 5; workers = 1 })
 unfolding given clap_on_literals
 making_with_a_sign_first = refl
 
-making_before_hyphens : asked (codes "--make" ∷ codes "5" ∷ codes "--" ∷ codes "run" ∷ []) ≡ Ok (record { kind = Run; make = Some 5; workers = 1 })
+making_before_hyphens : asked (codes "--make" ∷ codes "5" ∷ codes "--" ∷ codes "run" ∷ [])
+    ≡ Ok (record { kind = Run; make = Some 5; workers = 1 })
 unfolding given clap_on_literals
 making_before_hyphens = refl
 
-making_live : asked (codes "live" ∷ codes "--make" ∷ codes "5" ∷ []) ≡ Ok (record { kind = Live; make = Some 5; workers = 1 })
+making_live : asked (codes "live" ∷ codes "--make" ∷ codes "5" ∷ [])
+    ≡ Ok (record { kind = Live; make = Some 5; workers = 1 })
 unfolding given clap_on_literals
 making_live = refl
 
 -- zeros may lead the number
-making_with_a_zero : asked (codes "run" ∷ codes "--make" ∷ codes "05" ∷ []) ≡ Ok (record { kind = Run; make = Some 5; workers = 1 })
+making_with_a_zero : asked (codes "run" ∷ codes "--make" ∷ codes "05" ∷ [])
+    ≡ Ok (record { kind = Run; make = Some 5; workers = 1 })
 unfolding given clap_on_literals
 making_with_a_zero = refl
 
 -- ---- Accepted with a number of workers
 
-sharing : asked (codes "run" ∷ codes "--workers" ∷ codes "2" ∷ []) ≡ Ok (record { kind = Run; make = None; workers = 2 })
+sharing : asked (codes "run" ∷ codes "--workers" ∷ codes "2" ∷ [])
+    ≡ Ok (record { kind = Run; make = None; workers = 2 })
 unfolding given clap_on_literals
 sharing = refl
 
-sharing_with_the_most : asked (codes "live" ∷ codes "--workers=8" ∷ []) ≡ Ok (record { kind = Live; make = None; workers = 8 })
+sharing_with_the_most : asked (codes "live" ∷ codes "--workers=8" ∷ [])
+    ≡ Ok (record { kind = Live; make = None; workers = 8 })
 unfolding given clap_on_literals
 sharing_with_the_most = refl
 
-sharing_with_one : asked (codes "--workers" ∷ codes "1" ∷ codes "steps" ∷ []) ≡ Ok (record { kind = Steps; make = None; workers = 1 })
+sharing_with_one : asked (codes "--workers" ∷ codes "1" ∷ codes "steps" ∷ [])
+    ≡ Ok (record { kind = Steps; make = None; workers = 1 })
 unfolding given clap_on_literals
 sharing_with_one = refl
 
-sharing_what_is_made : asked (codes "run" ∷ codes "--make" ∷ codes "1" ∷ codes "--workers" ∷ codes "4" ∷ []) ≡ Ok (record { kind = Run; make = Some 1; workers = 4 })
+sharing_what_is_made : asked (codes "run" ∷ codes "--make" ∷ codes "1" ∷ codes "--workers" ∷ codes "4" ∷ [])
+    ≡ Ok (record { kind = Run; make = Some 1; workers = 4 })
 unfolding given clap_on_literals
 sharing_what_is_made = refl
 

@@ -33,10 +33,11 @@ pub enum JobKind {
 #[derive(Clone, Copy, Debug, PartialEq, Eq)]
 pub struct Job {
     pub kind: JobKind,
-    /// Of how many rounds the document is made that is run, from 1 to `MOST_ROUNDS`. Without it the document is read. An upgrade, a
-    /// check and a plan have none.
+    /// Of how many rounds the document is made that is run, from 1 to `MOST_ROUNDS`. Without it the document is read.
+    /// An upgrade, a check and a plan have none.
     pub make: Option<u32>,
-    /// How many workers share the controllers of each depth of a cycle, from 1 to `MOST_WORKERS`. A job that runs nothing has one.
+    /// How many workers share the controllers of each depth of a cycle, from 1 to `MOST_WORKERS`. A job that runs
+    /// nothing has one.
     pub workers: u32,
 }
 

@@ -1,12 +1,14 @@
 //! Words, read by a command of `clap`.
 
-ghost use Rattle.std.specs.Prelude.{◌≡◌, ◌≤◌, ◌⊎◌, ◌∷◌, false, None, codes, map, option_map, string_bytes, IfOk, IfErr, IfSome};
+ghost use Rattle.std.specs.Prelude.{◌≡◌, ◌≤◌, ◌⊎◌, ◌∷◌, false, None, codes, map};
+ghost use Rattle.std.specs.Prelude.{option_map, string_bytes, IfOk, IfErr, IfSome};
 ghost use Rattle.std.specs.List.{list_all};
 ghost use Rattle.std.specs.Char.{is_ascii_digit};
 ghost use Rattle.clap.specs.Words.{first_value, found_of, kind_of, Text};
 ghost use Rattle.sequence.specs.Answers.{Answers};
 ghost use Rattle.cm_words.specs.declared.job.TheConstants.{MOST_ROUNDS, MOST_WORKERS};
-ghost use Rattle.cm_words.specs.Words.{asked, given, can_make, CanBeAsked, job_of, job_with, job_word, kind_named, make_text, workers_text};
+ghost use Rattle.cm_words.specs.Words.{asked, given, can_make, CanBeAsked, job_of, job_with};
+ghost use Rattle.cm_words.specs.Words.{job_word, kind_named, make_text, workers_text};
 ghost use Rattle.cm_words.specs.Words.{rounds_asked, rounds_in, workers_asked, workers_in};
 
 use crate::job::{MOST_DIGITS_OF_ROUNDS, MOST_ROUNDS, MOST_WORKERS};

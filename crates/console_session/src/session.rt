@@ -3,7 +3,8 @@
 ghost use Rattle.std.specs.Prelude.{◌≡◌, ◌<◌, length, None, true, IfOk, IfSome, OnErr, MatchOption};
 ghost use Rattle.cm_model.specs.Scheduled.{ticket_in};
 ghost use Rattle.cm_model.specs.Ports.{Makes, MakesNone, IsNotYet};
-ghost use Rattle.console_session.specs.Sessions.{IsLine, AreLines, SessionState, awaited, at_first, next_of, Advances, HasStopped, AdvancesAsWritten};
+ghost use Rattle.console_session.specs.Sessions.{IsLine, AreLines, SessionState, awaited, at_first};
+ghost use Rattle.console_session.specs.Sessions.{next_of, Advances, HasStopped, AdvancesAsWritten};
 
 use cm_document::{Call, SessionText};
 use cm_model::{Port, Reply};
@@ -21,7 +22,8 @@ pub enum Progress {
     Ended,
 }
 
-/// An operator's session: its lines, how many of them it has made, and the ticket of its last request until it is told of it.
+/// An operator's session: its lines, how many of them it has made, and the ticket of its last request until it is told
+/// of it.
 #[derive(Debug, Drop)]
 pub struct Session {
     who: u32,
@@ -57,8 +59,8 @@ impl Session {
         }
     }
 
-    /// Makes its next call over its console, where that is enabled: it is told of its ticket, else it makes its next line. Want of memory
-    /// makes none, and the session stays as it was.
+    /// Makes its next call over its console, where that is enabled: it is told of its ticket, else it makes its next
+    /// line. Want of memory makes none, and the session stays as it was.
     pub fn advance<P: Port>(&mut self, port: &mut P) -> Result<Progress, Memory>
         ensures advanced { IfOk result
             (λ progress. Advances progress (P.tells port.old) (P.tells port.new) self.old self.new) }

@@ -16,8 +16,8 @@ use ctl_traj::TrajCtl;
 use fixed_num::{Fx, Value};
 use std::alloc::Global;
 
-/// A controller of any kind. A library's stocks are of these and not of boxes, because no function of a library may hand
-/// out a `dyn` that it made: nothing would be known of it but its trait.
+/// A controller of any kind. A library's stocks are of these and not of boxes, because no function of a library may
+/// hand out a `dyn` that it made: nothing would be known of it but its trait.
 #[derive(Drop)]
 pub enum AnyKind {
     /// A forward.

@@ -3,8 +3,8 @@
 use crate::set_ctl::{SetCtl, SetKind};
 use cm_document::{CtlKind, Params};
 
-/// A passthrough: if it is chained it gives its references, else the values that it was sent last. Before any mail these
-/// are unset.
+/// A passthrough: if it is chained it gives its references, else the values that it was sent last. Before any mail
+/// these are unset.
 pub type Passthrough = SetCtl<PassthroughKind>;
 
 /// The kind of passthroughs.

@@ -42,8 +42,8 @@ pub trait SetKind: Drop {
     ghost row: { (outs : ℕ) → GivesWhatIsSet own (with_claims outs) outs exporting };
 }
 
-/// A controller over set values: if it is chained it gives its references, else the values that it was sent last. Before
-/// any mail these are unset.
+/// A controller over set values: if it is chained it gives its references, else the values that it was sent last.
+/// Before any mail these are unset.
 #[derive(Debug, Drop)]
 pub struct SetCtl<K> {
     part: Option<SetPart>,

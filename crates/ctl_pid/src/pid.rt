@@ -13,8 +13,8 @@ use ctl_trait::{CfgFault, Controller, only};
 use fixed_num::{Fx, Value};
 use std::alloc::Global;
 
-/// A pid: it gives the output that brings its state to its reference where it is chained, else to the value that it was sent last.
-/// Where that is unset, so is its output.
+/// A pid: it gives the output that brings its state to its reference where it is chained, else to the value that it was
+/// sent last. Where that is unset, so is its output.
 #[derive(Debug, Drop)]
 pub struct PidCtl {
     kept: Option<Kept>,

@@ -1,5 +1,5 @@
-//! The formulas of a pid, on whole micro-units. They are exact: a number is brought into the range or within a limit only where a formula
-//! says so, or where the formula comes to the same.
+//! The formulas of a pid, on whole micro-units. They are exact: a number is brought into the range or within a limit
+//! only where a formula says so, or where the formula comes to the same.
 
 ghost use Rattle.std.specs.Prelude.{◌≡◌, ◌≤◌, ◌≤ℤ◌, ◌+ℤ◌, pos, true, ◌&&◌};
 ghost use Rattle.fixed_num.specs.Arithmetic.{change_at, within};
@@ -78,8 +78,8 @@ pub(crate) fn error_of(wanted: Fx, state: Fx) -> Fx
     wanted.sub(state)
 }
 
-/// The rate at which the error changed since the update before. A difference past the range has a rate past it, since no time is
-/// longer than a second.
+/// The rate at which the error changed since the update before. A difference past the range has a rate past it, since
+/// no time is longer than a second.
 #[tactic(auto, using(crate::proofs::LoopLemmas::exact))]
 pub(crate) fn derivative_of(last: Option<Fx>, error: Fx, dt_us: u32) -> Fx
     requires some_time { 1 ≤ dt_us }

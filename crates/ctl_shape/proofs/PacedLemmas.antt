@@ -1,5 +1,6 @@
 -- A limiter for the time between two updates makes the new step of the table.
-use Rattle.std.proofs.Common.{◌≡◌, ℕ, ◌*◌, ◌≤◌, ℤ, ◌+ℤ◌, ◌-ℤ◌, ◌≤ℤ◌, nat_abs, Bool, true, false, [], ◌∷◌, inl, inr, ap, subst, ◌∙◌, arith}
+use Rattle.std.proofs.Common.{◌≡◌, ℕ, ◌*◌, ◌≤◌, ℤ, ◌+ℤ◌, ◌-ℤ◌, ◌≤ℤ◌, nat_abs, Bool}
+use Rattle.std.proofs.Common.{true, false, [], ◌∷◌, inl, inr, ap, subst, ◌∙◌, arith}
 use Rattle.std.specs.Prelude.{if◌then◌else◌}
 use Rattle.std.proofs.lemmas.Int.{ints}
 use Rattle.fixed_num.specs.Micro.{IsInRange, clamped}
@@ -34,11 +35,13 @@ leads_by_table limits limiter at last wanted out paced above below short step =
     } in
     let cut : IsNewStep (capped reach) at last (wanted_step reach at wanted) (out -ℤ at) =
     subst (λ (r : Reach). IsNewStep r at last (wanted_step r at wanted) (out -ℤ at)) paced.limiter_is step in
-    let is = new_is_found reach at last (wanted_step reach at wanted) (out -ℤ at) (same_new reach at last (wanted_step reach at wanted) (out -ℤ at) here cut) in
+    let is = new_is_found reach at last (wanted_step reach at wanted) (out -ℤ at)
+    (same_new reach at last (wanted_step reach at wanted) (out -ℤ at) here cut) in
     omega (arith, ints, is)
 
 -- a new step is no longer than the speed is large, in at most a second
-short_step : (bounds : Bounds) (dt_us : ℕ) (at last wanted step : ℤ) → dt_us ≤ MICRO → IsInRange bounds.speed → IsNewStep (reach_of bounds dt_us) at last wanted step → IsInRange step
+short_step : (bounds : Bounds) (dt_us : ℕ) (at last wanted step : ℤ) → dt_us ≤ MICRO → IsInRange bounds.speed
+    → IsNewStep (reach_of bounds dt_us) at last wanted step → IsInRange step
 short_step bounds dt_us at last wanted step short fits (inl nearest) =
     let long = nearest.feasible.no_longer in
     let less = change_no_more bounds.speed dt_us short in
@@ -46,17 +49,22 @@ short_step bounds dt_us at last wanted step short fits (inl nearest) =
 short_step bounds dt_us at last wanted step short fits (inr none) =
     let is = none.0 in (omega (arith, ints, is), omega (arith, ints, is))
 
-step_fits : (bounds : Bounds) (dt_us : ℕ) (at last wanted : ℤ) → dt_us ≤ MICRO → IsInRange bounds.speed → IsInRange (new_step (reach_of bounds dt_us) at last wanted)
+step_fits : (bounds : Bounds) (dt_us : ℕ) (at last wanted : ℤ) → dt_us ≤ MICRO → IsInRange bounds.speed
+    → IsInRange (new_step (reach_of bounds dt_us) at last wanted)
 step_fits bounds dt_us at last wanted short fits =
-    short_step bounds dt_us at last wanted (new_step (reach_of bounds dt_us) at last wanted) short fits (search_finds (reach_of bounds dt_us) at last wanted)
+    short_step bounds dt_us at last wanted (new_step (reach_of bounds dt_us) at last wanted) short fits
+    (search_finds (reach_of bounds dt_us) at last wanted)
 
--- So a place to which the limiter of these limits leads is where the table leads, and the step is a number of the range.
+-- So a place to which the limiter of these limits leads is where the table leads, and the step is a number of the
+-- range.
 pub leads_to : (limits : Limits) (limiter : Reach) (at last : ℤ) (wanted : Value) (out : ℤ) → IsPaced limits limiter
     → CanBeLed limits at limits.dt_us → IsInRange last → limiter.lowest ≤ℤ out → out ≤ℤ limiter.highest
     → IsNewStep limiter at last (wanted_step limiter at wanted) (out -ℤ at) → IsLedTo limits at last wanted out
 leads_to limits limiter at last wanted out paced can fits low high step =
-    let led = leads_by_table limits limiter at last wanted out paced can.above can.below (omega (arith, ints, fits.0, fits.1)) step in
-    let small = step_fits (bounds_in limits) limits.dt_us at last (wanted_step (reach_in limits) at wanted) can.no_longer paced.fast in
+    let led = leads_by_table limits limiter at last wanted out paced can.above can.below
+    (omega (arith, ints, fits.0, fits.1)) step in
+    let small = step_fits (bounds_in limits) limits.dt_us at last (wanted_step (reach_in limits) at wanted)
+    can.no_longer paced.fast in
     record {
       led = led;
       fits = (omega (arith, ints, led, small.0), omega (arith, ints, led, small.1));
@@ -72,7 +80,8 @@ Leaves given chained set place step = (run.Limiter chained set place step ≡ gi
 
 -- one new step towards this target
 led_on : (bounds : Bounds) (chained : Bool) (set : Value) (at last : ℤ) (dt_us : ℕ) (target : Value) (place step : ℤ)
-    → place ≡ at +ℤ new_step (reach_of bounds dt_us) at last (wanted_step (reach_of bounds dt_us) at target) → step ≡ place -ℤ at
+    → place ≡ at +ℤ new_step (reach_of bounds dt_us) at last (wanted_step (reach_of bounds dt_us) at target)
+    → step ≡ place -ℤ at
     → Leaves (limiter_update bounds chained set at last dt_us (target ∷ [])) chained set place step
 led_on bounds chained set at last dt_us target place step led step_is =
     let next = new_step (reach_of bounds dt_us) at last (wanted_step (reach_of bounds dt_us) at target) in
@@ -81,9 +90,12 @@ led_on bounds chained set at last dt_us target place step led step_is =
       ap (λ (z : ℤ). Num z ∷ []) led,
     )
 
-led_by : (limits : Limits) (chained : Bool) (set : Value) (at last : ℤ) (dt_us : ℕ) (reference target : Value) (place step : ℤ)
-    → target ≡ (if chained then reference else set) → IsLedTo (at_pace limits dt_us) at last target place → step ≡ place -ℤ at
-    → Leaves (limiter_update (bounds_in limits) chained set at last dt_us (wanted chained (reference ∷ []) (set ∷ []))) chained set place step
+led_by : (limits : Limits) (chained : Bool) (set : Value) (at last : ℤ) (dt_us : ℕ) (reference target : Value)
+    (place step : ℤ)
+    → target ≡ (if chained then reference else set) → IsLedTo (at_pace limits dt_us) at last target place
+    → step ≡ place -ℤ at
+    → Leaves (limiter_update (bounds_in limits) chained set at last dt_us (wanted chained (reference ∷ []) (set ∷ [])))
+    chained set place step
 led_by limits true set at last dt_us reference target place step is to step_is =
     let led = subst (λ (t : Value). IsLedTo (at_pace limits dt_us) at last t place) is to in
     led_on (bounds_in limits) true set at last dt_us reference place step led.led step_is
@@ -93,7 +105,8 @@ led_by limits false set at last dt_us reference target place step is to step_is 
 
 -- what an update keeps and gives, where it went one new step on, is what the table says
 pub update_is : (before : Limits) (led : Led) (dt_us : ℕ) (reference target : Value) (place step : ℤ)
-    → target ≡ (if led.chained then reference else led.set) → IsLedTo (at_pace before dt_us) led.at led.step target place → step ≡ clamped (place -ℤ led.at)
+    → target ≡ (if led.chained then reference else led.set)
+    → IsLedTo (at_pace before dt_us) led.at led.step target place → step ≡ clamped (place -ℤ led.at)
     → Leaves (limiter_step before led dt_us reference) led.chained led.set place step
 update_is before led dt_us reference target place step is to step_is =
     led_by before led.chained led.set led.at led.step dt_us reference target place step is to

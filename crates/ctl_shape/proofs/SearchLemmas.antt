@@ -1,5 +1,6 @@
 -- The search of the table finds the new step.
-use Rattle.std.proofs.Common.{◌≡◌, ℕ, zero, suc, ◌+◌, ◌≤◌, ℤ, pos, negsuc, ◌+ℤ◌, ◌-ℤ◌, ◌≤ℤ◌, nat_abs, Bool, true, false, Option, Some, None, inl, inr, refl, sym, subst, ◌∙◌, true≢false, arith}
+use Rattle.std.proofs.Common.{◌≡◌, ℕ, zero, suc, ◌+◌, ◌≤◌, ℤ, pos, negsuc, ◌+ℤ◌, ◌-ℤ◌, ◌≤ℤ◌, nat_abs, Bool, true}
+use Rattle.std.proofs.Common.{false, Option, Some, None, inl, inr, refl, sym, subst, ◌∙◌, true≢false, arith}
 use Rattle.std.specs.Prelude.{◌⊎◌, ◌&&◌, ◌||◌, ◌==◌, nat_le, nat_lt, int_le, if◌then◌else◌, unwrap_or}
 use Rattle.std.proofs.lemmas.Bool.{leb-true, le-leb, lt-ltb, eqb-true, eq-eqb, and_parts, cases_lt}
 use Rattle.std.proofs.lemmas.Int.{ints, by_lt_z}
@@ -35,7 +36,8 @@ so_still zero step still = let is = still refl in eq-eqb (nat_abs step) 0 (omega
 so_still (suc n) step still = rw (lt-ltb 0 (suc n) (omega arith)) refl
 
 -- a step that passes the test is feasible,
-pub feasible_so : (reach : Reach) (at last step : ℤ) → is_feasible reach at last step ≡ true → IsFeasible reach at last step
+pub feasible_so : (reach : Reach) (at last step : ℤ) → is_feasible reach at last step ≡ true
+    → IsFeasible reach at last step
 feasible_so reach at last step so =
     let first = and_parts (nat_le (nat_abs step) reach.longest) _ so in
     let second = and_parts (nat_le (nat_abs (step -ℤ last)) reach.change) _ first.1 in
@@ -48,11 +50,14 @@ feasible_so reach at last step so =
     }
 
 -- and a feasible step passes it
-pub so_feasible : (reach : Reach) (at last step : ℤ) → IsFeasible reach at last step → is_feasible reach at last step ≡ true
+pub so_feasible : (reach : Reach) (at last step : ℤ) → IsFeasible reach at last step
+    → is_feasible reach at last step ≡ true
 so_feasible reach at last step feasible =
     both_so (nat_le (nat_abs step) reach.longest) _ (le-leb (nat_abs step) reach.longest feasible.no_longer)
-    (both_so (nat_le (nat_abs (step -ℤ last)) reach.change) _ (le-leb (nat_abs (step -ℤ last)) reach.change feasible.near_last)
-    (both_so (stops_in_time reach (at +ℤ step) step) _ (so_stop reach (at +ℤ step) step feasible.stops) (so_still reach.change step feasible.still)))
+    (both_so (nat_le (nat_abs (step -ℤ last)) reach.change) _
+    (le-leb (nat_abs (step -ℤ last)) reach.change feasible.near_last)
+    (both_so (stops_in_time reach (at +ℤ step) step) _ (so_stop reach (at +ℤ step) step feasible.stops)
+    (so_still reach.change step feasible.still)))
 
 -- ---- The search
 
@@ -69,14 +74,16 @@ IsFound test wanted limit (Some step) = (test step ≡ true) × IsNone test want
 two_so_far : (other wanted : ℤ) (far : ℕ) → nat_abs (other -ℤ wanted) ≤ far → far ≤ nat_abs (other -ℤ wanted)
     → (other ≡ wanted -ℤ pos far) ⊎ (other ≡ wanted +ℤ pos far)
 two_so_far other wanted far most least =
-    by_lt_z other wanted (λ below. inl (omega (arith, ints, below, most, least))) (λ above. inr (omega (arith, ints, above, most, least)))
+    by_lt_z other wanted (λ below. inl (omega (arith, ints, below, most, least)))
+    (λ above. inr (omega (arith, ints, above, most, least)))
 
 module _ (test : ℤ → Bool) (wanted : ℤ) (far : ℕ) where
   refused : (z : ℤ) → test z ≡ false → test z ≡ true → ⊥
   refused z no' so = true≢false (sym so ∙ no')
 
   -- if neither of the two passes, all that do are farther
-  farther : IsNone test wanted far → test (wanted -ℤ pos far) ≡ false → test (wanted +ℤ pos far) ≡ false → IsNone test wanted (far + 1)
+  farther : IsNone test wanted far → test (wanted -ℤ pos far) ≡ false → test (wanted +ℤ pos far) ≡ false
+      → IsNone test wanted (far + 1)
   farther apart low high other so = elim (cases_lt far (nat_abs (other -ℤ wanted))) [
     | inl more ↦ omega (arith, more)
     | inr most ↦ elim (two_so_far other wanted far most (apart other so)) [
@@ -85,14 +92,19 @@ module _ (test : ℤ → Bool) (wanted : ℤ) (far : ℕ) where
     ]
   ]
 
-  one_more : (limit : ℕ) (rest : Option ℤ) (low high : Bool) → IsNone test wanted far → test (wanted -ℤ pos far) ≡ low → test (wanted +ℤ pos far) ≡ high
+  one_more : (limit : ℕ) (rest : Option ℤ) (low high : Bool) → IsNone test wanted far → test (wanted -ℤ pos far) ≡ low
+      → test (wanted +ℤ pos far) ≡ high
       → (IsNone test wanted (far + 1) → IsFound test wanted limit rest)
-      → IsFound test wanted limit (if low then Some (wanted -ℤ pos far) else if high then Some (wanted +ℤ pos far) else rest)
-  one_more limit rest true high apart low_is high_is later = (low_is, λ other so. let least = apart other so in omega (arith, ints, least))
-  one_more limit rest false true apart low_is high_is later = (high_is, λ other so. let least = apart other so in omega (arith, ints, least))
+      → IsFound test wanted limit
+      (if low then Some (wanted -ℤ pos far) else if high then Some (wanted +ℤ pos far) else rest)
+  one_more limit rest true high apart low_is high_is later =
+      (low_is, λ other so. let least = apart other so in omega (arith, ints, least))
+  one_more limit rest false true apart low_is high_is later =
+      (high_is, λ other so. let least = apart other so in omega (arith, ints, least))
   one_more limit rest false false apart low_is high_is later = later (farther apart low_is high_is)
 
-found : (reach : Reach) (at last wanted : ℤ) (limit far times : ℕ) → limit ≡ far + times → IsNone (is_feasible reach at last) wanted far
+found : (reach : Reach) (at last wanted : ℤ) (limit far times : ℕ) → limit ≡ far + times
+    → IsNone (is_feasible reach at last) wanted far
     → IsFound (is_feasible reach at last) wanted limit (nearest_from reach at last wanted far times)
 unfolding nearest_from
 found reach at last wanted limit far zero is apart = λ other so. let least = apart other so in omega (arith, least, is)
@@ -101,7 +113,8 @@ found reach at last wanted limit far (suc times) is apart =
     (is_feasible reach at last (wanted -ℤ pos far)) (is_feasible reach at last (wanted +ℤ pos far)) apart refl refl
     (λ apart'. found reach at last wanted limit (far + 1) times (omega (arith, is)) apart')
 
-found_is_new : (reach : Reach) (at last wanted : ℤ) (o : Option ℤ) → IsFound (is_feasible reach at last) wanted (suc (nat_abs wanted + reach.longest)) o
+found_is_new : (reach : Reach) (at last wanted : ℤ) (o : Option ℤ)
+    → IsFound (is_feasible reach at last) wanted (suc (nat_abs wanted + reach.longest)) o
     → IsNewStep reach at last wanted (unwrap_or o (pos 0))
 found_is_new reach at last wanted None none = inr (
   refl,
@@ -119,8 +132,11 @@ pub search_finds : (reach : Reach) (at last wanted : ℤ) → IsNewStep reach at
 unfolding new_step
 search_finds reach at last wanted =
     found_is_new reach at last wanted (nearest_from reach at last wanted 0 (suc (nat_abs wanted + reach.longest)))
-    (found reach at last wanted (suc (nat_abs wanted + reach.longest)) 0 (suc (nat_abs wanted + reach.longest)) (omega arith) (λ other so. omega arith))
+    (found reach at last wanted (suc (nat_abs wanted + reach.longest)) 0 (suc (nat_abs wanted + reach.longest))
+    (omega arith) (λ other so. omega arith))
 
 -- so a new step is the one that it finds
-pub new_is_found : (reach : Reach) (at last wanted step : ℤ) → IsNewStep reach at last wanted step → step ≡ new_step reach at last wanted
-new_is_found reach at last wanted step new = one_step reach at last wanted step (new_step reach at last wanted) new (search_finds reach at last wanted)
+pub new_is_found : (reach : Reach) (at last wanted step : ℤ) → IsNewStep reach at last wanted step
+    → step ≡ new_step reach at last wanted
+new_is_found reach at last wanted step new =
+    one_step reach at last wanted step (new_step reach at last wanted) new (search_finds reach at last wanted)

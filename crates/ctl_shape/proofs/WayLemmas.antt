@@ -16,14 +16,16 @@ enough : (a t n m : ℕ) → 0 < a → t ≤ n → t ≤ m → slowing a t n ≡
 enough a t zero zero some le le' = refl
 enough a t zero (suc m) some le le' = sym (slow_none a t (suc m) (omega (arith, le)))
 enough a t (suc n) zero some le le' = slow_none a t (suc n) (omega (arith, le'))
-enough a t (suc n) (suc m) some le le' = ap (λ k. (t - a) + k) (enough a (t - a) n m some (omega (arith, le, some)) (omega (arith, le', some)))
+enough a t (suc n) (suc m) some le le' =
+    ap (λ k. (t - a) + k) (enough a (t - a) n m some (omega (arith, le, some)) (omega (arith, le', some)))
 
 -- slowing down once is one step less
 pub once : (a s : ℕ) → 0 < a → way_after a s ≡ (s - a) + way_after a (s - a)
 once a zero some =
     let z : 0 - a ≡ 0 = omega arith in
     rw z refl
-once a (suc s) some = ap (λ k. (suc s - a) + k) (enough a (suc s - a) s (suc s - a) some (omega (arith, some)) (omega arith))
+once a (suc s) some =
+    ap (λ k. (suc s - a) + k) (enough a (suc s - a) s (suc s - a) some (omega (arith, some)) (omega arith))
 
 slowing_more : (a s t n : ℕ) → s ≤ t → slowing a s n ≤ slowing a t n
 slowing_more a s t zero le = omega arith
@@ -37,7 +39,8 @@ way_more a s t some le = rw (enough a s s t some (omega arith) le) (slowing_more
 
 -- ---- Its formula, between two multiples of the change
 
-pub way_is : (a q s : ℕ) → 0 < a → q * a ≤ s → s ≤ suc q * a → 2 * (s + way_after a s) + a * (q * (q + 1)) ≡ 2 * ((q + 1) * s)
+pub way_is : (a q s : ℕ) → 0 < a → q * a ≤ s → s ≤ suc q * a
+    → 2 * (s + way_after a s) + a * (q * (q + 1)) ≡ 2 * ((q + 1) * s)
 way_is a zero s some least most =
     let short : s ≤ a = omega (arith, most) in
     rw (slow_none a s s short) (omega arith)

@@ -6,7 +6,8 @@ use Rattle.cm_model.specs.Kinds.{publishes}
 use Rattle.cm_model.specs.declared.data.CtlData.{CtlData}
 use Rattle.ctl_trait.specs.Taking.{CanTakeIf, CanTake}
 
-pub can_take_if : (publishing : Bool) (ctl : CtlData) (mail : Mail) → CanBeMailed ctl mail → CanTakeIf publishing ctl mail
+pub can_take_if : (publishing : Bool) (ctl : CtlData) (mail : Mail) → CanBeMailed ctl mail
+    → CanTakeIf publishing ctl mail
 can_take_if true ctl mail fits = tt
 can_take_if false ctl mail fits = fits
 

@@ -8,8 +8,8 @@ use fixed_num::{Fx, Value};
 use std::alloc::{AllocError, Global};
 use std::marker::Model;
 
-/// A value for each claim, in room that `make` took, and while it runs, whether it is chained. A configured forward, passthrough or mock
-/// keeps such a part. Contracts see both (`Part`).
+/// A value for each claim, in room that `make` took, and while it runs, whether it is chained. A configured forward,
+/// passthrough or mock keeps such a part. Contracts see both (`Part`).
 #[derive(Debug, Drop)]
 pub struct SetPart {
     set: Vec<Value>,

@@ -5,8 +5,8 @@ ghost use Rattle.cm_document.specs.declared.call.Point2.{Point2};
 ghost use Rattle.cm_model.specs.Ways.{last_point, led};
 ghost use Rattle.ctl_traj.specs.Between.{GoesBetween, AreNumbers, point_at_start};
 
-/// Before its last point's time a trajectory is between two points that follow one another, the one whose time has come and the one
-/// that is to come: each output lies between their values. The first of all is where it was at the start.
+/// Before its last point's time a trajectory is between two points that follow one another, the one whose time has come
+/// and the one that is to come: each output lies between their values. The first of all is where it was at the start.
 pub fn it_goes_from_point_to_point()
     ensures { (t : ℕ) (hold from : List ℤ) (p : Point2) (ps : List Point2) → AreNumbers (point_at_start from ∷ p ∷ ps)
         → t < (last_point p ps).at_us → GoesBetween t (point_at_start from ∷ p ∷ ps) (led t hold from (p ∷ ps)) }

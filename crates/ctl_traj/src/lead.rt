@@ -11,8 +11,9 @@ use cm_document::Point2;
 use ctl_trait::set_numbers;
 use fixed_num::{Fx, Value};
 
-/// Puts the values at the time `t` after the start into the claims: without points those to hold, from the last point's time on that
-/// point's, and before it those on the way. The times of some points are known to have come; it tells of how many that is known now.
+/// Puts the values at the time `t` after the start into the claims: without points those to hold, from the last point's
+/// time on that point's, and before it those on the way. The times of some points are known to have come; it tells of
+/// how many that is known now.
 pub(crate) fn lead(
     t: u64,
     hold: &[Fx],
@@ -39,8 +40,8 @@ pub(crate) fn lead(
     }
 }
 
-/// Puts the values on the way through the points into the claims. The points are looked through in the order in which they came, from the
-/// first one on whose time is not known to have come.
+/// Puts the values on the way through the points into the claims. The points are looked through in the order in which
+/// they came, from the first one on whose time is not known to have come.
 #[tactic(auto, using(crate::proofs::ComeLemmas::one_more_come))]
 fn lead_on(t: u64, from: &[Fx], points: &[Point2], come: usize, outs: &mut [Value]) -> usize
     requires { CanGoOn t from.now points.now come (length outs.old) }

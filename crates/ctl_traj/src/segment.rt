@@ -16,7 +16,8 @@ pub(crate) fn on_segment(t: u64, t0: u64, t1: u64, from: Fx, to: Fx) -> Fx
     from.shifted(share(Fx::difference(to, from), t - t0, t1 - t0))
 }
 
-/// The part of a way that is gone in a part of its time. Nearly always the product fits 64 bits, which divide far faster than 128.
+/// The part of a way that is gone in a part of its time. Nearly always the product fits 64 bits, which divide far
+/// faster than 128.
 #[tactic(auto, using(crate::proofs::SegmentLemmas::sizes))]
 fn share(way: i64, gone: u64, time: u64) -> i64
     requires part { gone < time }

@@ -16,8 +16,8 @@ use sequence::Seq;
 use std::alloc::{AllocError, Global};
 use std::marker::Model;
 
-/// A trajectory: it leads its claims on straight lines through the points that it was sent last, from the states of the update that
-/// took them. Before any points it holds the states of its activation.
+/// A trajectory: it leads its claims on straight lines through the points that it was sent last, from the states of the
+/// update that took them. Before any points it holds the states of its activation.
 #[derive(Debug, Drop)]
 pub struct TrajCtl {
     way: Option<Way>,

@@ -1,4 +1,5 @@
--- What is told of descriptions that no text reaches, as a joint of a text has each kind of interface once: computed from the definition.
+-- What is told of descriptions that no text reaches, as a joint of a text has each kind of interface once: computed
+-- from the definition.
 use Rattle.std.proofs.Common.{◌≡◌, refl, ℕ, zero, suc, List, [], ◌∷◌, ◌++◌, replicate, Ok, Err, pos}
 use Rattle.std.specs.Prelude.{codes}
 use Rattle.std.specs.Fmt.{decimal, digits}
@@ -21,11 +22,15 @@ numbered make (suc n) = numbered make n ++ make n ∷ []
 
 -- a joint of a system, with so many commands and states, all of one kind
 abbrev joint : ℕ → ℕ → ℕ → ℕ → JointDesc
-joint commands states system number = a_joint (codes "j" ++ decimal system ++ codes "_" ++ decimal number) (pos 0) (pos 0) (pos 0) (pos 0) (pos 0) (replicate commands Effort) (replicate states Position)
+joint commands states system number =
+    a_joint (codes "j" ++ decimal system ++ codes "_" ++ decimal number) (pos 0) (pos 0) (pos 0) (pos 0) (pos 0)
+    (replicate commands Effort) (replicate states Position)
 
 -- a system of so many joints
 abbrev system : ℕ → ℕ → ℕ → ℕ → CompDesc
-system joints commands states number = a_component (codes "c" ++ decimal number) System Active Unconfigured [] [] (numbered (joint commands states number) joints)
+system joints commands states number =
+    a_component (codes "c" ++ decimal number) System Active Unconfigured [] []
+    (numbered (joint commands states number) joints)
 
 -- so many systems, each of so many joints with so many commands and states each
 abbrev systems : ℕ → ℕ → ℕ → ℕ → Description
@@ -33,7 +38,8 @@ systems count joints commands states = a_description 1 100 5 (numbered (system j
 
 -- the same in the second version
 abbrev systems_of_second : ℕ → ℕ → ℕ → ℕ → Description
-systems_of_second count joints commands states = a_description 2 100 5 (numbered (system joints commands states) count) []
+systems_of_second count joints commands states =
+    a_description 2 100 5 (numbered (system joints commands states) count) []
 
 most_states : verdict (systems 1 1 0 96) ≡ Ok tt
 unfolding verdict valid digits

@@ -6,6 +6,7 @@ use Rattle.cm_document.specs.declared.description.CtlDesc.{CtlDesc}
 use Rattle.cm_document.specs.declared.faults.CheckFault.TheVariants.{NoFallback}
 
 -- the first fallback that cannot stand in is told
-pub stand_in_unfit : (described : List (List ℕ)) (c : CtlDesc) (name : List ℕ) → Some name ≡ find (λ each. not (can_stand_in described c each)) c.fallback
+pub stand_in_unfit : (described : List (List ℕ)) (c : CtlDesc) (name : List ℕ)
+    → Some name ≡ find (λ each. not (can_stand_in described c each)) c.fallback
     → stand_in described c ≡ Err (NoFallback c.name name)
 stand_in_unfit described c name found = rw (← found, stand_in) refl

@@ -15,7 +15,8 @@ repeated_seen same f seen [] = refl
 repeated_seen same f seen (x ∷ xs) =
     elim (cases_Bool (list_any (λ y. same (f x) (f y)) seen)) [
       | inl found ↦ rw (any_map (same (f x)) f seen, found) refl
-      | inr none ↦ rw (any_map (same (f x)) f seen, none, ← map-append f seen (x ∷ [])) (repeated_seen same f (seen ++ x ∷ []) xs)
+      | inr none ↦ rw (any_map (same (f x)) f seen, none, ← map-append f seen (x ∷ []))
+          (repeated_seen same f (seen ++ x ∷ []) xs)
     ]
 
 -- where nothing repeats, what is seen of it differs
@@ -25,5 +26,6 @@ apart_none same text f xs none = rw (repeated_seen same f [] xs ∙ ap (option_m
 
 -- the first that repeats is told by what is seen of it
 pub apart_some : {A B : Type 0} (same : B → B → Bool) (text : B → List ℕ) (f : A → B) (xs : List A) (x : A)
-    → repeated_after (λ x y. same (f x) (f y)) [] xs ≡ Some x → apart same text (map f xs) ≡ Err (NameTwice (text (f x)))
+    → repeated_after (λ x y. same (f x) (f y)) [] xs ≡ Some x
+    → apart same text (map f xs) ≡ Err (NameTwice (text (f x)))
 apart_some same text f xs x found = rw (repeated_seen same f [] xs ∙ ap (option_map f) found, apart) refl

@@ -23,7 +23,8 @@ fault_stays (Ok a) b e h = cc
 fault_stays (Err x) b e h = cc
 
 -- the fault that is told is that of the description, or want of memory
-pub fault_of_verdict : (d : Description) (e : CheckFault) → (e ≡ Memory) ⊎ (verdict d ≡ Err e) → (e ≡ Memory) ⊎ (valid d ≡ Err e)
+pub fault_of_verdict : (d : Description) (e : CheckFault) → (e ≡ Memory) ⊎ (verdict d ≡ Err e)
+    → (e ≡ Memory) ⊎ (valid d ≡ Err e)
 unfolding verdict
 fault_of_verdict d e (inl memory) = inl memory
 fault_of_verdict d e (inr told) = inr (fault_stays (valid d) tt e told)

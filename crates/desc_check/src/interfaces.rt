@@ -13,8 +13,8 @@ use cm_document::{CheckFault, CompDesc, CtlDesc, Description, JointDesc};
 use iface_names::{IfaceName, Kind, Name};
 use std::alloc::{AllocError, Global};
 
-/// Each claim is a command interface of a component or a reference, and each read a state interface: else NoInterface of the
-/// first that is not, controllers in order and of each its claims before its reads.
+/// Each claim is a command interface of a component or a reference, and each read a state interface: else NoInterface
+/// of the first that is not, controllers in order and of each its claims before its reads.
 pub fn links_exist(alloc: Global, description: &Description) -> Result<(), CheckFault>
     ensures { Answers CheckFault.Memory
         (links_exist (claimable description.now) (states_of description.now.components)

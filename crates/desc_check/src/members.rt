@@ -11,8 +11,8 @@ use cm_document::{CheckFault, CtlDesc, Description, GroupDesc};
 use iface_names::Name;
 use std::alloc::AllocError;
 
-/// Each member of a group is a controller that is described: else NoMember of the first that is not, in the order of the
-/// groups.
+/// Each member of a group is a controller that is described: else NoMember of the first that is not, in the order of
+/// the groups.
 pub fn members_exist(description: &Description) -> Result<(), CheckFault>
     ensures { Answers CheckFault.Memory
         (members_exist (map (λ c. c.name) description.now.controllers) description.now.groups) result }

@@ -6,15 +6,16 @@ ghost use Rattle.sequence.specs.Answers.{Answers};
 ghost use Rattle.iface_names.specs.Interfaces.{same_interface};
 ghost use Rattle.iface_names.specs.Names.{same_name};
 ghost use Rattle.cm_document.specs.Links.{joints_of};
-ghost use Rattle.cm_document.specs.Valid.{repeated_after, names_apart, interfaces_apart, links_apart, members_apart, named_apart};
+ghost use Rattle.cm_document.specs.Valid.{repeated_after, names_apart, interfaces_apart};
+ghost use Rattle.cm_document.specs.Valid.{links_apart, members_apart, named_apart};
 
 use crate::references::references;
 use cm_document::{CheckFault, CompDesc, CtlDesc, Description, GroupDesc, JointDesc, Text};
 use iface_names::{IfaceName, Name};
 use std::alloc::{AllocError, Global};
 
-/// No name stands twice among the components, the joints, the controllers, the references, the groups, the claims, reads
-/// or fallbacks of one controller, or the members of one group: else NameTwice of the first that does.
+/// No name stands twice among the components, the joints, the controllers, the references, the groups, the claims,
+/// reads or fallbacks of one controller, or the members of one group: else NameTwice of the first that does.
 pub fn named_apart(alloc: Global, description: &Description) -> Result<(), CheckFault>
     ensures { Answers CheckFault.Memory (named_apart description.now) result }
 {

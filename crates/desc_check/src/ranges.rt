@@ -7,7 +7,9 @@ ghost use Rattle.iface_names.specs.Interfaces.{same_kind};
 ghost use Rattle.cm_document.specs.Forms.{item_path, inside};
 ghost use Rattle.cm_document.specs.Limits.{is_version};
 ghost use Rattle.cm_document.specs.Params.{kind_at};
-ghost use Rattle.cm_document.specs.Valid.{ranged, not_negative, each_ranged, may_have, joint_ranged, joint_count_fits, component_ranged, claims_fit, reads_fit, limits_ranged, controller_ranged, group_ranged, in_range, are_all_of, claims_carried, links_ranged};
+ghost use Rattle.cm_document.specs.Valid.{ranged, not_negative, each_ranged, may_have, joint_ranged, joint_count_fits};
+ghost use Rattle.cm_document.specs.Valid.{component_ranged, claims_fit, reads_fit, limits_ranged, controller_ranged};
+ghost use Rattle.cm_document.specs.Valid.{group_ranged, in_range, are_all_of, claims_carried, links_ranged};
 
 use cm_document::{
     CheckFault, CompDesc, CompKind, CtlDesc, Description, FIRST_VERSION, GroupDesc, HIGHEST_RATE,

@@ -24,7 +24,8 @@ pub fn check(alloc: Global, description: Description) -> Result<Checked, CheckFa
     Ok(Checked::hold(description))
 }
 
-/// The description is valid, or its first fault is told: counts, then names, ranges, interfaces, fallbacks, members and loops.
+/// The description is valid, or its first fault is told: counts, then names, ranges, interfaces, fallbacks, members and
+/// loops.
 #[tactic(auto, unfolding(cm_document::specs::Valid::valid, crate::specs::Verdict::verdict))]
 pub(crate) fn no_fault(alloc: Global, description: &Description) -> Result<(), CheckFault>
     ensures { Answers CheckFault.Memory (verdict description.now) result }

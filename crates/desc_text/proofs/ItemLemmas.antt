@@ -1,6 +1,8 @@
 -- Lemmas for reading the items of a list one by one.
-use Rattle.std.proofs.Common.{◌≡◌, ℕ, ◌+◌, ◌<◌, List, [], ◌∷◌, ◌++◌, length, get_or, drop, Result, Some, None, Ok, Err, refl, sym}
-use Rattle.toml.specs.Data.{Data, string, integer, float, boolean, datetime, array, table, Members, Items, item, as_table}
+use Rattle.std.proofs.Common.{◌≡◌, ℕ, ◌+◌, ◌<◌, List, [], ◌∷◌, ◌++◌, length, get_or}
+use Rattle.std.proofs.Common.{drop, Result, Some, None, Ok, Err, refl, sym}
+use Rattle.toml.specs.Data.{Data, string, integer, float, boolean, datetime}
+use Rattle.toml.specs.Data.{array, table, Members, Items, item, as_table}
 use Rattle.toml.specs.View.{view, items_view}
 use Rattle.toml.specs.declared.value.Value.{Value}
 use Rattle.toml.proofs.Views.{items_view-drop}
@@ -12,7 +14,8 @@ use Rattle.cm_document.specs.declared.faults.Wrong.{Wrong}
 -- ---- One value an item
 
 -- an item that was read is the next of those found
-pub items_from_read : {A : Type 0} (rule : List A → Data → Result A Wrong) (path : List ℕ) (k : ℕ) (vs : List Value) (v : Value) (x : A) (found more : List A) (all : Result (List A) DescFault)
+pub items_from_read : {A : Type 0} (rule : List A → Data → Result A Wrong) (path : List ℕ) (k : ℕ) (vs : List Value)
+    (v : Value) (x : A) (found more : List A) (all : Result (List A) DescFault)
     → k < length vs → v ≡ get_or vs k v → placed (item_path path k) (rule found (view v)) ≡ Ok x
     → more ≡ found ++ x ∷ [] → items_from rule path k (items_view (drop k vs)) found ≡ all
     → items_from rule path (k + 1) (items_view (drop (k + 1) vs)) more ≡ all
@@ -20,7 +23,8 @@ items_from_read rule path k vs v x found more all inside at read grown so_far =
     rw grown (rw (items_view-drop vs k v inside, ← at, read) at so_far)
 
 -- the fault of an item is the fault of all
-pub items_from_fault : {A : Type 0} (rule : List A → Data → Result A Wrong) (path : List ℕ) (k : ℕ) (vs : List Value) (v : Value) (e : DescFault) (found : List A) (all : Result (List A) DescFault)
+pub items_from_fault : {A : Type 0} (rule : List A → Data → Result A Wrong) (path : List ℕ) (k : ℕ) (vs : List Value)
+    (v : Value) (e : DescFault) (found : List A) (all : Result (List A) DescFault)
     → k < length vs → v ≡ get_or vs k v → placed (item_path path k) (rule found (view v)) ≡ Err e
     → items_from rule path k (items_view (drop k vs)) found ≡ all → all ≡ Err e
 items_from_fault rule path k vs v e found all inside at read so_far =
@@ -50,23 +54,33 @@ at_other form path k (datetime t) ds found e = refl
 at_other form path k (array es) ds found e = refl
 
 -- a table that was read is the next of those found
-pub tables_from_read : {A : Type 0} (form : Form Members A) (path : List ℕ) (k : ℕ) (vs : List Value) (v : Value) (ms : Members) (prefix : List ℕ) (x : A) (found more : List A) (all : Result (List A) DescFault)
-    → k < length vs → v ≡ get_or vs k v → Some ms ≡ as_table (view v) → prefix ≡ inside (item_path path k) → form.read prefix ms ≡ Ok x
+pub tables_from_read : {A : Type 0} (form : Form Members A) (path : List ℕ) (k : ℕ) (vs : List Value) (v : Value)
+    (ms : Members) (prefix : List ℕ) (x : A) (found more : List A) (all : Result (List A) DescFault)
+    → k < length vs → v ≡ get_or vs k v → Some ms ≡ as_table (view v) → prefix ≡ inside (item_path path k)
+    → form.read prefix ms ≡ Ok x
     → more ≡ found ++ x ∷ [] → tables_from form path k (items_view (drop k vs)) found ≡ all
     → tables_from form path (k + 1) (items_view (drop (k + 1) vs)) more ≡ all
 tables_from_read form path k vs v ms prefix x found more all within at is place read grown so_far =
     rw grown (rw (items_view-drop vs k v within, ← at, table_of (view v) ms is, ← place, read) at so_far)
 
 -- the fault of a table is the fault of all
-pub tables_from_fault : {A : Type 0} (form : Form Members A) (path : List ℕ) (k : ℕ) (vs : List Value) (v : Value) (ms : Members) (prefix : List ℕ) (e : DescFault) (found : List A) (all : Result (List A) DescFault)
-    → k < length vs → v ≡ get_or vs k v → Some ms ≡ as_table (view v) → prefix ≡ inside (item_path path k) → form.read prefix ms ≡ Err e
+pub tables_from_fault : {A : Type 0} (form : Form Members A) (path : List ℕ) (k : ℕ) (vs : List Value) (v : Value)
+    (ms : Members) (prefix : List ℕ) (e : DescFault) (found : List A) (all : Result (List A) DescFault)
+    → k < length vs → v ≡ get_or vs k v → Some ms ≡ as_table (view v) → prefix ≡ inside (item_path path k)
+    → form.read prefix ms ≡ Err e
     → tables_from form path k (items_view (drop k vs)) found ≡ all → all ≡ Err e
 tables_from_fault form path k vs v ms prefix e found all within at is place read so_far =
     sym (rw (items_view-drop vs k v within, ← at, table_of (view v) ms is, ← place, read) at so_far)
 
 -- an item that is no table is the fault of all
-pub tables_from_other : {A : Type 0} (form : Form Members A) (path : List ℕ) (k : ℕ) (vs : List Value) (v : Value) (at_k : List ℕ) (found : List A) (all : Result (List A) DescFault)
+pub tables_from_other : {A : Type 0} (form : Form Members A) (path : List ℕ) (k : ℕ) (vs : List Value) (v : Value)
+    (at_k : List ℕ) (found : List A) (all : Result (List A) DescFault)
     → k < length vs → v ≡ get_or vs k v → None ≡ as_table (view v) → at_k ≡ item_path path k
     → tables_from form path k (items_view (drop k vs)) found ≡ all → all ≡ Err (BadValue at_k)
 tables_from_other form path k vs v at_k found all within at other place so_far =
-    rw place (sym (rw (items_view-drop vs k v within, ← at, at_other form path k (view v) (items_view (drop (k + 1) vs)) found other) at so_far))
+    rw place (sym
+    (rw (
+      items_view-drop vs k v within,
+      ← at,
+      at_other form path k (view v) (items_view (drop (k + 1) vs)) found other,
+    ) at so_far))

@@ -6,14 +6,16 @@ use Rattle.std.proofs.lemmas.Bool.{cases_Bool}
 use Rattle.std.proofs.lemmas.Str.{IsUtf8-from_is_utf8, is_utf8-from_IsUtf8}
 use Rattle.toml.specs.Data.{Members, get_member}
 use Rattle.toml.specs.Parse.{parse_document}
-use Rattle.cm_document.specs.Described.{tree_of, component_key, controller_form, group_table, a_grouped, a_description, described_states, top_table, states_of}
+use Rattle.cm_document.specs.Described.{tree_of, component_key, controller_form, group_table, a_grouped}
+use Rattle.cm_document.specs.Described.{a_description, described_states, top_table, states_of}
 use Rattle.cm_document.specs.Forms.{one, tables_of, whole_in}
 use Rattle.cm_document.specs.Reading.{◌>>=◌}
 use Rattle.cm_document.specs.Tables.{none_unlisted, unlisted, required_read, defaulted_read, walk}
 use Rattle.cm_document.specs.declared.description.CompDesc.{CompDesc}
 
 -- the tree of a text that was parsed
-pub tree_of_parsed : (text : List ℕ) (ms : Members) → IsUtf8 text → parse_document text ≡ Some ms → tree_of text ≡ Some ms
+pub tree_of_parsed : (text : List ℕ) (ms : Members) → IsUtf8 text → parse_document text ≡ Some ms
+    → tree_of text ≡ Some ms
 unfolding tree_of
 tree_of_parsed text ms utf8 parsed = rw (is_utf8-from_IsUtf8 text utf8, parsed)
 
@@ -30,7 +32,8 @@ tree_of_refused text refused =
 abbrev pub top_keys : List (List ℕ)
 top_keys = codes "version" ∷ codes "update_rate" ∷ codes "cycles" ∷ codes "component" ∷ codes "controller" ∷ []
 
--- In the first version the controllers are left where all before them was read; `shown` stands for the components whose states are `all`.
+-- In the first version the controllers are left where all before them was read; `shown` stands for the components whose
+-- states are `all`.
 pub first_read : (ms : Members) (version rate cycles : ℕ) (components shown : List CompDesc)
     → none_unlisted [] (unlisted top_keys ms) ≡ Ok tt
     → required_read (one whole_in) (codes "version") (get_member (codes "version") ms) ≡ Ok version
@@ -38,10 +41,12 @@ pub first_read : (ms : Members) (version rate cycles : ℕ) (components shown : 
     → required_read (one whole_in) (codes "cycles") (get_member (codes "cycles") ms) ≡ Ok cycles
     → component_key.form.read [] ms ≡ Ok components → shown ≡ components
     → (walk (top_table (described_states ms) false)).read [] ms
-    ≡ (defaulted_read (tables_of (controller_form (states_of shown))) [] (codes "controller") (get_member (codes "controller") ms)
+    ≡ (defaulted_read (tables_of (controller_form (states_of shown))) [] (codes "controller")
+    (get_member (codes "controller") ms)
     >>= λ controllers. Ok (a_description version rate cycles components controllers))
 unfolding described_states top_table
-first_read ms version rate cycles components shown listed a b c d same = rw (same, listed, a, b, c, d, described_states, top_table)
+first_read ms version rate cycles components shown listed a b c d same =
+    rw (same, listed, a, b, c, d, described_states, top_table)
 
 -- In the second version the controllers are left, and the groups behind them.
 pub second_read : (ms : Members) (version rate cycles : ℕ) (components shown : List CompDesc)
@@ -51,9 +56,11 @@ pub second_read : (ms : Members) (version rate cycles : ℕ) (components shown :
     → required_read (one whole_in) (codes "cycles") (get_member (codes "cycles") ms) ≡ Ok cycles
     → component_key.form.read [] ms ≡ Ok components → shown ≡ components
     → (walk (top_table (described_states ms) true)).read [] ms
-    ≡ ((defaulted_read (tables_of (controller_form (states_of shown))) [] (codes "controller") (get_member (codes "controller") ms)
+    ≡ ((defaulted_read (tables_of (controller_form (states_of shown))) [] (codes "controller")
+    (get_member (codes "controller") ms)
     >>= λ controllers. Ok (a_grouped version rate cycles components controllers))
     >>= λ make. defaulted_read (tables_of (walk group_table)) [] (codes "group") (get_member (codes "group") ms)
     >>= λ groups. Ok (make groups))
 unfolding described_states top_table
-second_read ms version rate cycles components shown listed a b c d same = rw (same, listed, a, b, c, d, described_states, top_table)
+second_read ms version rate cycles components shown listed a b c d same =
+    rw (same, listed, a, b, c, d, described_states, top_table)

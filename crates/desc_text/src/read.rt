@@ -3,7 +3,8 @@
 ghost use Rattle.std.specs.Prelude.{◌≡◌, true, false, [], ◌++◌, codes, IfOk};
 ghost use Rattle.sequence.specs.Answers.{Answers};
 ghost use Rattle.toml.specs.View.{view, table_view};
-ghost use Rattle.cm_document.specs.Described.{tree_of, description_in, description_form, described_states, top_table, is_second, is_two, controller_form, group_table, states_of};
+ghost use Rattle.cm_document.specs.Described.{tree_of, description_in, description_form, described_states, top_table};
+ghost use Rattle.cm_document.specs.Described.{is_second, is_two, controller_form, group_table, states_of};
 ghost use Rattle.cm_document.specs.Forms.{tables_of};
 ghost use Rattle.cm_document.specs.Tables.{defaulted_read, walk};
 ghost use Rattle.cm_document.specs.Valid.{IsDescribed};
@@ -40,10 +41,10 @@ const SECOND_KEYS: [&str; 6] = [
     "group",
 ];
 
-/// The description in a text of TOML 1.1, or the first fault of its walk with the path of the key: `NotToml` where the text has no
-/// tree, `BadKey` at a key that is not listed or that is missing, `FloatGiven` at a float for a number, `BadValue` at any other
-/// value that is not of its form. In a table the unlisted keys come first, then the listed ones in their order. Ranges, counts and
-/// repeated names are not looked at here.
+/// The description in a text of TOML 1.1, or the first fault of its walk with the path of the key: `NotToml` where the
+/// text has no tree, `BadKey` at a key that is not listed or that is missing, `FloatGiven` at a float for a number,
+/// `BadValue` at any other value that is not of its form. In a table the unlisted keys come first, then the listed ones
+/// in their order. Ranges, counts and repeated names are not looked at here.
 #[tactic(auto, using(crate::proofs::TreeLemmas::tree_of_parsed, crate::proofs::TreeLemmas::tree_of_refused, cm_document::proofs::ValidLemmas::read_IsDescribed))]
 pub fn read_description(alloc: Global, text: &[u8]) -> Result<Description, DescFault>
     ensures reads { Answers DescFault.Memory (description_in (tree_of text.now)) result }

@@ -4,7 +4,8 @@ ghost use Rattle.std.specs.Prelude.{◌≡◌};
 ghost use Rattle.std.specs.List.{list_any};
 ghost use Rattle.sequence.specs.Answers.{Answers};
 ghost use Rattle.toml.specs.View.{view};
-ghost use Rattle.cm_document.specs.Forms.{whole_in, where_some, quantity_in, boolean_in, name_in, interface_in, state_in, new_kind, kind_in};
+ghost use Rattle.cm_document.specs.Forms.{whole_in, where_some, quantity_in, boolean_in};
+ghost use Rattle.cm_document.specs.Forms.{name_in, interface_in, state_in, new_kind, kind_in};
 ghost use Rattle.cm_document.specs.Reading.{fault_as};
 ghost use Rattle.iface_names.specs.Interfaces.{same_kind};
 

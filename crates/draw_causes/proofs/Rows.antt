@@ -8,7 +8,8 @@ use Rattle.cm_model.specs.declared.cause.Cause.TheVariants as cause
 use Rattle.cm_model.specs.declared.reply.Why.TheVariants as why
 use Rattle.draw_causes.specs.declared.failures.Failure.TheVariants as failure
 use Rattle.draw_causes.specs.declared.failures.StopKind.TheVariants as stop
-use Rattle.draw_causes.specs.Words.{is_own, why_words, why_mend, cause_words, cause_mend, fallback_mend, failure_mend, stop_words}
+use Rattle.draw_causes.specs.Words.{is_own, why_words, why_mend, cause_words}
+use Rattle.draw_causes.specs.Words.{cause_mend, fallback_mend, failure_mend, stop_words}
 use Rattle.draw_causes.specs.Words.{stop_mend}
 
 -- a joint's own interface, and a reference for it

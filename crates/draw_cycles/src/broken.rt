@@ -8,8 +8,8 @@ use std::alloc::Global;
 /// How wide the bar is, in pixels.
 const BAR_WIDTH: u64 = 4;
 
-/// Draws a bar between two heights where a trace goes wrong at this line, with so many cycles ended before it, and above it the line's
-/// number.
+/// Draws a bar between two heights where a trace goes wrong at this line, with so many cycles ended before it, and
+/// above it the line's number.
 pub fn draw_break(
     alloc: Global,
     svg: &mut Svg,

@@ -8,7 +8,8 @@ use fixed_num::Memory;
 use iface_names::Name;
 use std::alloc::Global;
 
-/// When a request was decided, or a call did nothing, who asked, what, and what became of it; behind that the trace's own words.
+/// When a request was decided, or a call did nothing, who asked, what, and what became of it; behind that the trace's
+/// own words.
 pub fn answered_title(alloc: Global, answered: &Answered<'_>) -> Result<String, Memory> {
     let mut text = String::new(alloc);
     push_when(&mut text, answered)?;

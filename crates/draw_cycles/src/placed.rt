@@ -90,7 +90,8 @@ fn push_cell(
     Ok(())
 }
 
-/// The mark of what happened in a column: what a begin decides at its left, a stop at its right, the others in the middle.
+/// The mark of what happened in a column: what a begin decides at its left, a stop at its right, the others in the
+/// middle.
 fn mark_in(strip: &Strip, column: usize, event: Event, count: u64) -> Placed {
     let is_wide = strip.each_width().reaches(Px::of(ROOM_FOR_SIDES));
     let x = match event {

@@ -62,7 +62,8 @@ impl Strip {
         cycles.div_ceil(self.between_numbers().max(1))
     }
 
-    /// How many cycles lie between two numbers on the axis: 1, 2 or 5 times a power of ten, so that no more than 16 stand there.
+    /// How many cycles lie between two numbers on the axis: 1, 2 or 5 times a power of ten, so that no more than 16
+    /// stand there.
     pub fn between_numbers(&self) -> u64 {
         let cycles = self.columns.cycles();
         let mut step = 1u64;

@@ -1,5 +1,5 @@
-//! Who claims and reads what: the controllers in boxes, those that lead at the left of those that follow, and the interfaces of the
-//! hardware at the right.
+//! Who claims and reads what: the controllers in boxes, those that lead at the left of those that follow, and the
+//! interfaces of the hardware at the right.
 
 use crate::boxes::{boxes_of, draw_boxes};
 use crate::edges::{PlacedBox, draw_edges};

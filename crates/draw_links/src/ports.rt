@@ -95,7 +95,8 @@ pub struct Ports {
 }
 
 impl Ports {
-    /// The interfaces of a description, from this height on: right of columns so wide, or where the page has no more room.
+    /// The interfaces of a description, from this height on: right of columns so wide, or where the page has no more
+    /// room.
     pub fn of(
         alloc: Global,
         top: Px,

@@ -21,7 +21,8 @@ const MOST_LETTERS: usize = 40;
 /// The most letters of the document's name that are drawn.
 const MOST_OF_TITLE: usize = 40;
 
-/// The page of a run: the name of its document, empty where it has none, its description, its script, and the history of its book.
+/// The page of a run: the name of its document, empty where it has none, its description, its script, and the history
+/// of its book.
 pub fn page_of(
     alloc: Global,
     name: &str,

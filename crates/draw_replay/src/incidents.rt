@@ -110,7 +110,8 @@ fn push_stops<'a>(
     Ok(())
 }
 
-/// Why a controller was stopped, and because of what. A component that failed comes first, because it has to come back first.
+/// Why a controller was stopped, and because of what. A component that failed comes first, because it has to come back
+/// first.
 fn cause_of<'a>(
     present: &Present<'a>,
     record: &CycleRecord,

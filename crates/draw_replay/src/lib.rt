@@ -1,4 +1,5 @@
-//! What happened in a run, read off its history: who claims what, who is in which lifecycle state, and where each joint was.
+//! What happened in a run, read off its history: who claims what, who is in which lifecycle state, and where each joint
+//! was.
 #![tactic(auto)]
 
 pub use columns::{Columns, MOST_COLUMNS};

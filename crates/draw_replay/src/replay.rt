@@ -1,5 +1,6 @@
-//! What happened in a run, read off its history: the rows of the requests, the controllers and the components, and the course of each
-//! joint. Which call an entry is of is known from the script, as each session makes its lines once and in order.
+//! What happened in a run, read off its history: the rows of the requests, the controllers and the components, and the
+//! course of each joint. Which call an entry is of is known from the script, as each session makes its lines once and
+//! in order.
 
 ghost use Rattle.std.specs.Prelude.{◌≡◌};
 
@@ -31,7 +32,8 @@ pub enum Became<'a> {
 /// A request that was decided, fallbacks that were asked for, or a call that did nothing.
 #[derive(Drop)]
 pub struct Answered<'a> {
-    /// The cycle at whose begin it was decided, or before whose end the call came; the number of cycles where all had ended.
+    /// The cycle at whose begin it was decided, or before whose end the call came; the number of cycles where all had
+    /// ended.
     pub cycle: u64,
     /// The ticket of a request that got one.
     pub ticket: Option<u32>,
@@ -39,7 +41,8 @@ pub struct Answered<'a> {
     pub asked: Option<Asked<'a>>,
     /// The described groups that it named, each once.
     pub groups: Vec<&'a GroupDesc>,
-    /// The controllers whose fallbacks were asked for because their updates failed, in the order of these; of a request, none.
+    /// The controllers whose fallbacks were asked for because their updates failed, in the order of these; of a
+    /// request, none.
     pub failed: Vec<&'a CtlDesc>,
     /// What became of it.
     pub became: Became<'a>,
@@ -165,7 +168,8 @@ impl<'a> Replay<'a> {
         }
     }
 
-    /// A call did nothing. A request is marked in the row of the requests, another call in the row of the controller that it names.
+    /// A call did nothing. A request is marked in the row of the requests, another call in the row of the controller
+    /// that it names.
     fn read_refusal(&mut self, asked: Asked<'a>, why: Why) -> Result<(), Memory> {
         let number = self.answered.len();
         let cycle = self.present.ended;
@@ -312,7 +316,8 @@ impl<'a> Replay<'a> {
         }
     }
 
-    /// Those that leave are inactive, and those that come are active. What a controller gave that leaves or restarts is gone.
+    /// Those that leave are inactive, and those that come are active. What a controller gave that leaves or restarts is
+    /// gone.
     fn switch(&mut self, request: &SwitchRequest, dropped: &[Dropped]) {
         let description = self.present.description;
         for pick in request.off.as_slice() {

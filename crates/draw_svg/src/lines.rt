@@ -34,7 +34,8 @@ impl Lines {
         Ok(())
     }
 
-    /// A blank and a word, or the word on the next line where it has no room behind them. A word that is longer than a line is cut.
+    /// A blank and a word, or the word on the next line where it has no room behind them. A word that is longer than a
+    /// line is cut.
     fn push_word(&mut self, word: &str) -> Result<(), Memory> {
         let length = word.chars().count();
         if self.letters > 0 {

@@ -1,5 +1,7 @@
--- Division rounds down, and so what a rate adds up to is no more than the rate, and the rate of a change that a rate made no more than that.
-use Rattle.std.proofs.Common.{ℤ, pos, ◌<◌, ◌≤◌, negsuc, ◌<ℤ◌, ◌≤ℤ◌, ◌+ℤ◌, ◌*ℤ◌, neg_ℤ, nat_abs, ℕ, zero, suc, ◌≡◌, ap, ◌∙◌, ◌*◌, ◌/◌, refl, arith}
+-- Division rounds down, and so what a rate adds up to is no more than the rate, and the rate of a change that a rate
+-- made no more than that.
+use Rattle.std.proofs.Common.{ℤ, pos, ◌<◌, ◌≤◌, negsuc, ◌<ℤ◌, ◌≤ℤ◌, ◌+ℤ◌, ◌*ℤ◌, neg_ℤ}
+use Rattle.std.proofs.Common.{nat_abs, ℕ, zero, suc, ◌≡◌, ap, ◌∙◌, ◌*◌, ◌/◌, refl, arith}
 use Rattle.std.specs.Int.{int_div_euclid}
 use Rattle.std.proofs.lemmas.Int.{ints, clamps}
 use Rattle.std.proofs.Math.Nat.{div-le_of_le-mul, mul-pos, mul_comm, div-lt_iff_lt-mul, div-mul-le_self, mul-le-mul}
@@ -21,7 +23,8 @@ fold_above_negative (suc q) k = ap (λ z. z *ℤ pos k) (above_negative (suc q))
 -- the Euclidean quotient by a positive divisor, by the sign of what is divided
 quotient_is_floor : (z d : ℤ) → pos 0 <ℤ d → IsFloor z d (int_div_euclid z d)
 quotient_is_floor (pos a) (pos k) h = record { not_above = omega (arith, ints); greatest = omega (arith, ints) }
-quotient_is_floor (negsuc a) (pos k) h = record { not_above = omega (arith, ints); greatest = rw (fold_above_negative (a / k) k) (omega (arith, ints)) }
+quotient_is_floor (negsuc a) (pos k) h =
+    record { not_above = omega (arith, ints); greatest = rw (fold_above_negative (a / k) k) (omega (arith, ints)) }
 quotient_is_floor z (negsuc k) h = record { not_above = omega (arith, ints); greatest = omega (arith, ints) }
 
 -- floor_div rounds down
@@ -58,7 +61,8 @@ quotient_at_least (negsuc a) (negsuc h) k some le =
     omega (arith, ints)
 
 -- a quotient rounded down lies between two numbers where what is divided lies between their multiples
-pub floor_between : (z low high : ℤ) (k : ℕ) → 0 < k → (low *ℤ pos k) ≤ℤ z → z ≤ℤ (high *ℤ pos k) → (low ≤ℤ floor_div z (pos k)) × (floor_div z (pos k) ≤ℤ high)
+pub floor_between : (z low high : ℤ) (k : ℕ) → 0 < k → (low *ℤ pos k) ≤ℤ z → z ≤ℤ (high *ℤ pos k)
+    → (low ≤ℤ floor_div z (pos k)) × (floor_div z (pos k) ≤ℤ high)
 unfolding floor_div
 floor_between z low high k some least most = (quotient_at_least z low k some least, quotient_at_most z high k some most)
 
@@ -83,8 +87,10 @@ pub floor_within : (z : ℤ) (m k : ℕ) → 0 < k → IsWithin (pos (m * k)) z 
 floor_within z m k some near = floor_between z (neg_ℤ (pos m)) (pos m) k some (rw (negative_multiple m k) near.0) near.1
 
 -- what a rate within a limit adds up to in at most a second is within the limit
-pub change_within : (rate : ℤ) (m dt_us : ℕ) → IsWithin (pos m) rate → dt_us ≤ MICRO → IsWithin (pos m) (change_at rate dt_us)
-change_within rate m dt_us near short = floor_within (rate *ℤ pos dt_us) m MICRO (omega arith) (product_within rate m dt_us MICRO near short)
+pub change_within : (rate : ℤ) (m dt_us : ℕ) → IsWithin (pos m) rate → dt_us ≤ MICRO
+    → IsWithin (pos m) (change_at rate dt_us)
+change_within rate m dt_us near short =
+    floor_within (rate *ℤ pos dt_us) m MICRO (omega arith) (product_within rate m dt_us MICRO near short)
 
 -- so in at most a second no rate adds up to more than itself
 pub change_no_more : (rate : ℤ) (dt_us : ℕ) → dt_us ≤ MICRO → nat_abs (change_at rate dt_us) ≤ nat_abs rate
@@ -100,7 +106,8 @@ change_not_negative (pos r) dt_us h = omega (arith, ints)
 change_not_negative (negsuc r) dt_us h = absurd (omega (arith, ints))
 
 -- a change within what a rate adds up to was made at no more than this rate
-pub rate_within : (change : ℤ) (m dt_us : ℕ) → 0 < dt_us → IsWithin (change_at (pos m) dt_us) change → IsWithin (pos m) (rate_of change dt_us)
+pub rate_within : (change : ℤ) (m dt_us : ℕ) → 0 < dt_us → IsWithin (change_at (pos m) dt_us) change
+    → IsWithin (pos m) (rate_of change dt_us)
 unfolding floor_div
 rate_within change m dt_us some near =
     let whole : m * dt_us / MICRO * MICRO ≤ m * dt_us = div-mul-le_self (m * dt_us) MICRO in

@@ -1,5 +1,7 @@
 -- What is spelled reads back.
-use Rattle.std.proofs.Common.{◌≡◌, ℕ, zero, suc, ◌+◌, ◌-◌, ◌*◌, ◌/◌, ◌%◌, ◌<◌, ◌≤◌, Bool, true, false, ◌==◌, nat_lt, if◌then◌else◌, List, [], ◌∷◌, ◌++◌, length, take, drop, replicate, Some, Ok, ℤ, pos, negsuc, neg_ℤ, nat_abs, append_assoc, length-append, refl, sym, ap, ◌∙◌, inl, inr, arith}
+use Rattle.std.proofs.Common.{◌≡◌, ℕ, zero, suc, ◌+◌, ◌-◌, ◌*◌, ◌/◌, ◌%◌, ◌<◌, ◌≤◌, Bool, true, false, ◌==◌, nat_lt}
+use Rattle.std.proofs.Common.{if◌then◌else◌, List, [], ◌∷◌, ◌++◌, length, take, drop, replicate, Some, Ok, ℤ, pos}
+use Rattle.std.proofs.Common.{negsuc, neg_ℤ, nat_abs, append_assoc, length-append, refl, sym, ap, ◌∙◌, inl, inr, arith}
 use Rattle.std.specs.List.{prefix_len}
 use Rattle.std.specs.Char.{is_ascii_digit}
 use Rattle.std.specs.Str.{all_ascii_digits}
@@ -9,12 +11,14 @@ use Rattle.std.proofs.lemmas.Bool.{cases_Bool, and_parts, le-ltb, ltb-false}
 use Rattle.std.proofs.lemmas.Bool.Decides.{nat_tests}
 use Rattle.std.proofs.lemmas.Fmt.{digits_decimal, digits_value-decimal, decimal_nonempty, length-decimal-le}
 use Rattle.std.proofs.lemmas.List.{append-nil, length-replicate, take_at, drop_at, take_all, drop_all}
-use Rattle.fixed_num.specs.Text.{Parts, parts_from, unsigned_parts, number_parts, is_broken, decimal_count, size_of, number_in_range, number_of, sign_text, six_digits, spelled}
+use Rattle.fixed_num.specs.Text.{Parts, parts_from, unsigned_parts, number_parts, is_broken, decimal_count}
+use Rattle.fixed_num.specs.Text.{size_of, number_in_range, number_of, sign_text, six_digits, spelled}
 use Rattle.fixed_num.proofs.DigitLemmas.{own}
 use Rattle.fixed_num.proofs.ReadLemmas.{number_of_nothing, number_of_broken, number_of_parts}
 
 -- digits before anything else are counted whole
-digits_in_front : (ds tail : List ℕ) → all_ascii_digits ds ≡ true → prefix_len is_ascii_digit tail ≡ 0 → prefix_len is_ascii_digit (ds ++ tail) ≡ length ds
+digits_in_front : (ds tail : List ℕ) → all_ascii_digits ds ≡ true → prefix_len is_ascii_digit tail ≡ 0
+    → prefix_len is_ascii_digit (ds ++ tail) ≡ length ds
 digits_in_front [] tail h stop = stop
 digits_in_front (d ∷ ds) tail h stop =
     let both : (is_ascii_digit d ≡ true) × (all_ascii_digits ds ≡ true) = and_parts _ _ h in
@@ -25,17 +29,26 @@ digits_alone : (ds : List ℕ) → all_ascii_digits ds ≡ true → prefix_len i
 digits_alone ds h = rw append-nil at (digits_in_front ds [] h refl)
 
 -- the parts of digits, a point and digits
-point_parts : (negative : Bool) (d : ℕ) (ds six : List ℕ) → all_ascii_digits (d ∷ ds) ≡ true → all_ascii_digits six ≡ true → unsigned_parts negative ((d ∷ ds) ++ 46 ∷ six) ≡ record { negative = negative; whole = d ∷ ds; decimals = Some six; rest = [] }
+point_parts : (negative : Bool) (d : ℕ) (ds six : List ℕ) → all_ascii_digits (d ∷ ds) ≡ true
+    → all_ascii_digits six ≡ true
+    → unsigned_parts negative ((d ∷ ds) ++ 46 ∷ six)
+    ≡ record { negative = negative; whole = d ∷ ds; decimals = Some six; rest = [] }
 point_parts negative d ds six h k =
     let text = (d ∷ ds) ++ 46 ∷ six in
     let whole = digits_in_front (d ∷ ds) (46 ∷ six) h refl in
-    let front : take (prefix_len is_ascii_digit text) text ≡ d ∷ ds = ap (λ n. take n text) whole ∙ take_at (d ∷ ds) (46 ∷ six) _ refl in
-    let behind : drop (prefix_len is_ascii_digit text) text ≡ 46 ∷ six = ap (λ n. drop n text) whole ∙ drop_at (d ∷ ds) (46 ∷ six) _ refl in
-    let decimals : take (prefix_len is_ascii_digit six) six ≡ six = ap (λ n. take n six) (digits_alone six k) ∙ take_all (length six) six (omega arith) in
-    let rest : drop (prefix_len is_ascii_digit six) six ≡ [] = ap (λ n. drop n six) (digits_alone six k) ∙ drop_all (length six) six (omega arith) in
+    let front : take (prefix_len is_ascii_digit text) text ≡ d ∷ ds =
+    ap (λ n. take n text) whole ∙ take_at (d ∷ ds) (46 ∷ six) _ refl in
+    let behind : drop (prefix_len is_ascii_digit text) text ≡ 46 ∷ six =
+    ap (λ n. drop n text) whole ∙ drop_at (d ∷ ds) (46 ∷ six) _ refl in
+    let decimals : take (prefix_len is_ascii_digit six) six ≡ six =
+    ap (λ n. take n six) (digits_alone six k) ∙ take_all (length six) six (omega arith) in
+    let rest : drop (prefix_len is_ascii_digit six) six ≡ [] =
+    ap (λ n. drop n six) (digits_alone six k) ∙ drop_all (length six) six (omega arith) in
     ap (λ f. parts_from negative f (drop (prefix_len is_ascii_digit text) text)) front
     ∙ ap (λ b. parts_from negative (d ∷ ds) b) behind
-    ∙ ap (λ x. record { negative = negative; whole = d ∷ ds; decimals = Some x; rest = drop (prefix_len is_ascii_digit six) six }) decimals
+    ∙ ap (λ x. record
+    { negative = negative; whole = d ∷ ds; decimals = Some x; rest = drop (prefix_len is_ascii_digit six) six })
+    decimals
     ∙ ap (λ x. record { negative = negative; whole = d ∷ ds; decimals = Some six; rest = x }) rest
 
 -- a size with its sign
@@ -43,7 +56,10 @@ abbrev signed : Bool → ℕ → ℤ
 signed negative size = if negative then neg_ℤ (pos size) else pos size
 
 -- such parts are the number that they write
-point_number : (negative : Bool) (d : ℕ) (ds six : List ℕ) (w s : ℕ) → digits_value 10 (d ∷ ds) ≡ w → digits_value 10 six ≡ s → length six ≡ 6 → w * 1000000 + s ≤ 1000000000000000 → number_in_range (record { negative = negative; whole = d ∷ ds; decimals = Some six; rest = [] }) ≡ Ok (signed negative (w * 1000000 + s))
+point_number : (negative : Bool) (d : ℕ) (ds six : List ℕ) (w s : ℕ) → digits_value 10 (d ∷ ds) ≡ w
+    → digits_value 10 six ≡ s → length six ≡ 6 → w * 1000000 + s ≤ 1000000000000000
+    → number_in_range (record { negative = negative; whole = d ∷ ds; decimals = Some six; rest = [] })
+    ≡ Ok (signed negative (w * 1000000 + s))
 point_number negative d ds six w s whole part long small =
     let one : s * 1 ≡ s = omega arith in
     let fits = le-ltb 1000000000000000 (w * 1000000 + s) small in
@@ -60,13 +76,15 @@ record Writes (whole six : List ℕ) (size : ℕ) : Type 0 where
   small : size ≤ 1000000000000000
 
 -- their parts lack nothing
-parts_whole : (negative : Bool) (d : ℕ) (ds six : List ℕ) (size : ℕ) → Writes (d ∷ ds) six size → is_broken (unsigned_parts negative ((d ∷ ds) ++ 46 ∷ six)) ≡ false
+parts_whole : (negative : Bool) (d : ℕ) (ds six : List ℕ) (size : ℕ) → Writes (d ∷ ds) six size
+    → is_broken (unsigned_parts negative ((d ∷ ds) ++ 46 ∷ six)) ≡ false
 parts_whole negative d ds six size w =
     let long = w.long in
     ap is_broken (point_parts negative d ds six w.digits w.decimals) ∙ grind (arith, nat_tests)
 
 -- and are the number of this size
-parts_number : (negative : Bool) (d : ℕ) (ds six : List ℕ) (size : ℕ) → Writes (d ∷ ds) six size → number_in_range (unsigned_parts negative ((d ∷ ds) ++ 46 ∷ six)) ≡ Ok (signed negative size)
+parts_number : (negative : Bool) (d : ℕ) (ds six : List ℕ) (size : ℕ) → Writes (d ∷ ds) six size
+    → number_in_range (unsigned_parts negative ((d ∷ ds) ++ 46 ∷ six)) ≡ Ok (signed negative size)
 parts_number negative d ds six size w =
     let small = w.small in
     let sum : size / 1000000 * 1000000 + size % 1000000 ≡ size = omega arith in
@@ -80,12 +98,17 @@ plain_reads (d ∷ ds) six size w =
     let first : is_ascii_digit d ≡ true = (and_parts _ (all_ascii_digits ds) w.digits).0 in
     let unsigned : (d == 45) ≡ false = grind (arith, nat_tests) in
     let parts : number_parts ((d ∷ ds) ++ 46 ∷ six) ≡ unsigned_parts false ((d ∷ ds) ++ 46 ∷ six) = rw unsigned refl in
-    number_of_parts ((d ∷ ds) ++ 46 ∷ six) (grind (arith, nat_tests)) (ap is_broken parts ∙ parts_whole false d ds six size w) ∙ ap number_in_range parts ∙ parts_number false d ds six size w
+    number_of_parts ((d ∷ ds) ++ 46 ∷ six) (grind (arith, nat_tests))
+    (ap is_broken parts ∙ parts_whole false d ds six size w) ∙ ap number_in_range parts
+    ∙ parts_number false d ds six size w
 
 -- with one
-minus_reads : (whole six : List ℕ) (size : ℕ) → Writes whole six size → number_of (45 ∷ (whole ++ 46 ∷ six)) ≡ Ok (neg_ℤ (pos size))
+minus_reads : (whole six : List ℕ) (size : ℕ) → Writes whole six size
+    → number_of (45 ∷ (whole ++ 46 ∷ six)) ≡ Ok (neg_ℤ (pos size))
 minus_reads [] six size w = absurd (omega (arith, w.some))
-minus_reads (d ∷ ds) six size w = number_of_parts (45 ∷ ((d ∷ ds) ++ 46 ∷ six)) (grind (arith, nat_tests)) (parts_whole true d ds six size w) ∙ parts_number true d ds six size w
+minus_reads (d ∷ ds) six size w =
+    number_of_parts (45 ∷ ((d ∷ ds) ++ 46 ∷ six)) (grind (arith, nat_tests)) (parts_whole true d ds six size w)
+    ∙ parts_number true d ds six size w
 
 -- zeros in front are digits
 zeros_all : (k : ℕ) (ds : List ℕ) → all_ascii_digits ds ≡ true → all_ascii_digits (replicate k 48 ++ ds) ≡ true
@@ -104,7 +127,8 @@ six_digits_long n small =
     length-append (replicate (6 - length (decimal n)) 48) (decimal n) ∙ rw (length-replicate) (omega arith)
 
 -- what is spelled of a size writes it
-spelled_writes : (size : ℕ) → size ≤ 1000000000000000 → Writes (decimal (size / 1000000)) (six_digits (size % 1000000)) size
+spelled_writes : (size : ℕ) → size ≤ 1000000000000000
+    → Writes (decimal (size / 1000000)) (six_digits (size % 1000000)) size
 spelled_writes size small =
     let w = size / 1000000 in
     let p = size % 1000000 in
@@ -121,8 +145,11 @@ spelled_writes size small =
 -- a number in the range reads back from its text
 pub spelled_reads_back : (n : ℤ) → nat_abs n ≤ 1000000000000000 → number_of (spelled n) ≡ Ok n
 unfolding spelled
-spelled_reads_back (pos m) small = rw append_assoc (plain_reads (decimal (m / 1000000)) (six_digits (m % 1000000)) m (spelled_writes m small))
-spelled_reads_back (negsuc m) small = rw append_assoc (minus_reads (decimal (suc m / 1000000)) (six_digits (suc m % 1000000)) (suc m) (spelled_writes (suc m) small))
+spelled_reads_back (pos m) small =
+    rw append_assoc (plain_reads (decimal (m / 1000000)) (six_digits (m % 1000000)) m (spelled_writes m small))
+spelled_reads_back (negsuc m) small =
+    rw append_assoc
+    (minus_reads (decimal (suc m / 1000000)) (six_digits (suc m % 1000000)) (suc m) (spelled_writes (suc m) small))
 
 -- a sign is one byte at most
 sign_is_short : (n : ℤ) → length (sign_text n) ≤ 1
@@ -142,7 +169,8 @@ spelled_is_short n small =
     let sign = sign_is_short n in
     let whole = length-decimal-le 10 w (omega arith) (omega arith) (omega arith) in
     let six = six_digits_long p (omega arith) in
-    let e : length (spelled n) ≡ length (sign_text n) + length (decimal w) + 1 + length (six_digits p) = four_long (sign_text n) (decimal w) (46 ∷ []) (six_digits p) in
+    let e : length (spelled n) ≡ length (sign_text n) + length (decimal w) + 1 + length (six_digits p) =
+    four_long (sign_text n) (decimal w) (46 ∷ []) (six_digits p) in
     omega arith
 
 -- the sign leaves the size

@@ -11,13 +11,15 @@ number_of_nothing [] e = refl
 number_of_nothing (b ∷ bs) e = absurd (grind (arith, nat_tests))
 
 -- a bad byte
-pub number_of_broken : (text : List ℕ) → (length text == 0) ≡ false → is_broken (number_parts text) ≡ true → number_of text ≡ Err (BadByte (length text - length (number_parts text).rest))
+pub number_of_broken : (text : List ℕ) → (length text == 0) ≡ false → is_broken (number_parts text) ≡ true
+    → number_of text ≡ Err (BadByte (length text - length (number_parts text).rest))
 unfolding number_of
 number_of_broken [] e broken = absurd (grind (arith, nat_tests))
 number_of_broken (b ∷ bs) e broken = rw (broken, number_of) refl
 
 -- parts of a number and nothing else
-pub number_of_parts : (text : List ℕ) → (length text == 0) ≡ false → is_broken (number_parts text) ≡ false → number_of text ≡ number_in_range (number_parts text)
+pub number_of_parts : (text : List ℕ) → (length text == 0) ≡ false → is_broken (number_parts text) ≡ false
+    → number_of text ≡ number_in_range (number_parts text)
 unfolding number_of
 number_of_parts [] e broken = absurd (grind (arith, nat_tests))
 number_of_parts (b ∷ bs) e broken = rw (broken, number_of) refl

@@ -1,5 +1,6 @@
 -- Digits written from the last one on.
-use Rattle.std.proofs.Common.{◌≡◌, ℕ, zero, suc, ◌+◌, ◌-◌, ◌/◌, ◌%◌, ◌^◌, ◌<◌, ◌≤◌, List, [], ◌∷◌, ◌++◌, length, replicate, append_assoc, length-append, refl, sym, ap, ◌∙◌, inl, inr, arith}
+use Rattle.std.proofs.Common.{◌≡◌, ℕ, zero, suc, ◌+◌, ◌-◌, ◌/◌, ◌%◌, ◌^◌, ◌<◌, ◌≤◌, List, [], ◌∷◌, ◌++◌, length}
+use Rattle.std.proofs.Common.{replicate, append_assoc, length-append, refl, sym, ap, ◌∙◌, inl, inr, arith}
 use Rattle.std.specs.Fmt.{decimal}
 use Rattle.std.specs.Prelude.{IsUtf8, nat_abs, ℤ, pos, negsuc}
 use Rattle.std.specs.Str.{IsAscii}
@@ -20,7 +21,8 @@ pub ten_digits : (n : ℕ) → n ≤ 10 ^ 9 → length (decimal n) ≤ 10
 ten_digits n h = length-decimal-le 10 n (omega arith) (omega arith) (omega arith)
 
 -- a number's last digit, put before what follows the number
-pub decimal_put : (n : ℕ) (tail : List ℕ) → 10 ≤ n → n < 2 ^ 64 → decimal (n / 10) ++ ((48 + n % 10) ∷ tail) ≡ decimal n ++ tail
+pub decimal_put : (n : ℕ) (tail : List ℕ) → 10 ≤ n → n < 2 ^ 64
+    → decimal (n / 10) ++ ((48 + n % 10) ∷ tail) ≡ decimal n ++ tail
 decimal_put n tail more small = rw (decimal_step n more small, append_assoc) refl
 
 -- the number without it is one digit shorter
@@ -28,11 +30,13 @@ pub decimal_shorter : (n : ℕ) → 10 ≤ n → n < 2 ^ 64 → length (decimal 
 decimal_shorter n more small = ap length (decimal_step n more small) ∙ length-append (decimal (n / 10)) _
 
 -- the last of k + 1 digits
-pub low_put : (k j n : ℕ) (tail : List ℕ) → j ≡ k + 1 → low_digits k (n / 10) ++ ((48 + n % 10) ∷ tail) ≡ low_digits j n ++ tail
+pub low_put : (k j n : ℕ) (tail : List ℕ) → j ≡ k + 1
+    → low_digits k (n / 10) ++ ((48 + n % 10) ∷ tail) ≡ low_digits j n ++ tail
 low_put k j n tail one = let more : j ≡ suc k = omega arith in rw (more, append_assoc) refl
 
 -- the last digits of a number that has no more are its digits, with zeros in front
-low_digits_are : (k n : ℕ) → n < 10 ^ suc k → n < 2 ^ 64 → low_digits (suc k) n ≡ replicate (suc k - length (decimal n)) 48 ++ decimal n
+low_digits_are : (k n : ℕ) → n < 10 ^ suc k → n < 2 ^ 64
+    → low_digits (suc k) n ≡ replicate (suc k - length (decimal n)) 48 ++ decimal n
 low_digits_are zero n small _ =
     let r : n % 10 ≡ n = omega arith in
     rw (decimal_digit n (omega arith), r) refl
@@ -44,9 +48,11 @@ low_digits_are (suc k) n small wide =
           let r : n % 10 ≡ n = omega arith in
           let nothing : decimal (n / 10) ≡ 48 ∷ [] = ap decimal q ∙ decimal_digit 0 (omega arith) in
           let rest : suc k - 1 ≡ k = omega arith in
-          let zeros : low_digits (suc k) (n / 10) ≡ replicate (k + 1) 48 = (rw (nothing, rest) at front) ∙ replicate_more k 48 in
+          let zeros : low_digits (suc k) (n / 10) ≡ replicate (k + 1) 48 =
+          (rw (nothing, rest) at front) ∙ replicate_more k 48 in
           let few : suc (suc k) - 1 ≡ k + 1 = omega arith in
-          rw (decimal_digit n one, few) (ap (λ ds. ds ++ (48 + n % 10) ∷ []) zeros ∙ ap (λ d. replicate (k + 1) 48 ++ (48 + d) ∷ []) r)
+          rw (decimal_digit n one, few)
+          (ap (λ ds. ds ++ (48 + n % 10) ∷ []) zeros ∙ ap (λ d. replicate (k + 1) 48 ++ (48 + d) ∷ []) r)
       | inr more ↦
           let step = decimal_step n more wide in
           let shorter = decimal_shorter n more wide in
@@ -74,7 +80,10 @@ unfolding spelled
 spelled_IsUtf8 n small =
     let whole = nat_abs n / 1000000 in
     let part = nat_abs n % 1000000 in
-    let decimals = IsAscii-append (replicate (6 - length (decimal part)) 48) (decimal part) (zeros_IsAscii _) (IsAscii-decimal part (omega arith)) in
+    let decimals =
+    IsAscii-append (replicate (6 - length (decimal part)) 48) (decimal part) (zeros_IsAscii _)
+    (IsAscii-decimal part (omega arith)) in
     let front = IsAscii-append (sign_text n) (decimal whole) (sign_IsAscii n) (IsAscii-decimal whole (omega arith)) in
-    let point = IsAscii-append (sign_text n ++ decimal whole) (46 ∷ []) front (IsAscii-cons 46 [] (omega arith) IsAscii-nil) in
+    let point = IsAscii-append (sign_text n ++ decimal whole) (46 ∷ []) front
+    (IsAscii-cons 46 [] (omega arith) IsAscii-nil) in
     IsUtf8-from_ascii (spelled n) (IsAscii-append _ (six_digits part) point decimals)

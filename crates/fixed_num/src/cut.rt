@@ -5,7 +5,8 @@ ghost use Rattle.std.specs.Str.{all_ascii_digits};
 ghost use Rattle.std.specs.List.{prefix_len};
 ghost use Rattle.std.specs.Char.{is_ascii_digit};
 ghost use Rattle.std.specs.Str.Parse.{digits_value};
-ghost use Rattle.fixed_num.specs.Text.{front_digits, after_digits, unsigned_parts, number_parts, is_broken, is_bare_point, decimal_count, micro_of_decimals, size_of};
+ghost use Rattle.fixed_num.specs.Text.{front_digits, after_digits, unsigned_parts, number_parts, is_broken};
+ghost use Rattle.fixed_num.specs.Text.{is_bare_point, decimal_count, micro_of_decimals, size_of};
 
 use crate::{DECIMALS, LARGEST, MICRO, MOST_UNITS};
 use std::marker::Model;

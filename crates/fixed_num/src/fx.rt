@@ -87,7 +87,8 @@ impl Fx {
         Fx::from_micro(self.micro - other.micro)
     }
 
-    /// How many micro-units the one number is more than the other: exactly, also where that is past an end of the range.
+    /// How many micro-units the one number is more than the other: exactly, also where that is past an end of the
+    /// range.
     pub fn difference(more: Fx, less: Fx) -> i64
         ensures value { result ≡ more -ℤ less }
         ensures small { nat_abs result ≤ 2 * LARGEST }
@@ -115,7 +116,8 @@ impl Fx {
         }
     }
 
-    /// The number times `num` and divided by `den`, rounded down to whole micro-units; past either end of the range it is that end.
+    /// The number times `num` and divided by `den`, rounded down to whole micro-units; past either end of the range it
+    /// is that end.
     pub fn over(self, num: i64, den: i64) -> Fx
         requires positive { pos 0 <ℤ den }
         ensures { result ≡ ratio self num den }

@@ -7,7 +7,8 @@ ghost use Rattle.fixed_num.specs.Text.{number_of, spelled};
 
 use crate::fx::Fx;
 
-/// Division rounds down: its quotient is the greatest whole number whose product with the divisor is not above what is divided.
+/// Division rounds down: its quotient is the greatest whole number whose product with the divisor is not above what is
+/// divided.
 pub fn division_rounds_down()
     ensures { (z d : ℤ) → pos 0 <ℤ d → IsFloor z d (floor_div z d) }
 {}

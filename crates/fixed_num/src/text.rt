@@ -1,6 +1,7 @@
 //! The one spelling of a number.
 
-ghost use Rattle.std.specs.Prelude.{◌≡◌, ◌+◌, ◌*◌, ◌^◌, ◌<◌, ◌≤◌, List, [], ◌∷◌, ◌++◌, length, nat_abs, MatchResult, IfOk, IsOk, Some, vec_len, vec_capacity, string_bytes};
+ghost use Rattle.std.specs.Prelude.{◌≡◌, ◌+◌, ◌*◌, ◌^◌, ◌<◌, ◌≤◌, List, [], ◌∷◌, ◌++◌, length, nat_abs};
+ghost use Rattle.std.specs.Prelude.{MatchResult, IfOk, IsOk, Some, vec_len, vec_capacity, string_bytes};
 ghost use Rattle.std.specs.Fmt.{decimal, DisplaysOnOk};
 ghost use Rattle.fixed_num.specs.Text.{spelled, six_digits};
 

@@ -2,7 +2,8 @@
 
 use crate::fx::Fx;
 
-/// What a state, command or reference interface holds. Nothing stands in for a number that is missing: no zero, no not-a-number.
+/// What a state, command or reference interface holds. Nothing stands in for a number that is missing: no zero, no
+/// not-a-number.
 #[derive(Clone, Copy, Debug, PartialEq, Eq)]
 pub enum Value {
     /// Nobody has set the interface.

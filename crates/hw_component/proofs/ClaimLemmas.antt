@@ -1,5 +1,6 @@
 -- Claims that stand on one joint.
-use Rattle.std.proofs.Common.{◌≡◌, ℕ, suc, ◌+◌, ◌-◌, ◌<◌, Bool, true, false, List, [], ◌∷◌, Option, Some, None, inl, inr, refl, sym, ◌∙◌, arith}
+use Rattle.std.proofs.Common.{◌≡◌, ℕ, suc, ◌+◌, ◌-◌, ◌<◌, Bool, true, false, List, []}
+use Rattle.std.proofs.Common.{◌∷◌, Option, Some, None, inl, inr, refl, sym, ◌∙◌, arith}
 use Rattle.std.specs.Prelude.{not, ◌&&◌, ◌==◌, find}
 use Rattle.std.specs.List.{list_any, range_with_len}
 use Rattle.std.proofs.lemmas.Bool.{cases_Bool, and_left, and_right, or_parts, or_from}
@@ -37,7 +38,8 @@ module _ (p : ℕ → Bool) where
   no_two (x ∷ xs) zs a none here =
       let parts = or_parts (p x && not (a == x)) (another a xs) here in
       or_from (p x && another x zs) (two xs zs) (elim (cases_Bool (p x)) [
-        | inl stands ↦ let same : a ≡ x = grind (arith, stands, parts.0) in and_right (p x) (another x zs) (rw (← same) none)
+        | inl stands ↦ let same : a ≡ x =
+            grind (arith, stands, parts.0) in and_right (p x) (another x zs) (rw (← same) none)
         | inr not_so ↦ and_left (p x) (another x zs) not_so
       ]) (no_two xs zs a none parts.1)
 
@@ -49,16 +51,20 @@ module _ (p : ℕ → Bool) where
   ]
 
 -- no claim stands on the joint, so no two do
-pub uncontested : (commands : List JointInterface) (claims : List ℕ) (joint : ℕ) → claim_on commands claims joint ≡ None → is_contested commands claims joint ≡ false
+pub uncontested : (commands : List JointInterface) (claims : List ℕ) (joint : ℕ) → claim_on commands claims joint ≡ None
+    → is_contested commands claims joint ≡ false
 uncontested commands claims joint none = none_two (stands_on commands joint) claims claims none
 
 -- one claim stands on the joint, so two do where another one does
-pub contested : (commands : List JointInterface) (claims : List ℕ) (joint first : ℕ) → claim_on commands claims joint ≡ Some first
-    → is_contested commands claims joint ≡ list_any (λ claim. stands_on commands joint claim && not (first == claim)) claims
+pub contested : (commands : List JointInterface) (claims : List ℕ) (joint first : ℕ)
+    → claim_on commands claims joint ≡ Some first
+    → is_contested commands claims joint
+    ≡ list_any (λ claim. stands_on commands joint claim && not (first == claim)) claims
 contested commands claims joint first is = beside_first (stands_on commands joint) claims first is
 
 -- the least joint at odds among those that are left, where the first of these is not
-pub least_further : (test : ℕ → Bool) (joint n : ℕ) (least : Option ℕ) → joint < n → test joint ≡ false → find test (range_with_len joint (n - joint)) ≡ least
+pub least_further : (test : ℕ → Bool) (joint n : ℕ) (least : Option ℕ) → joint < n → test joint ≡ false
+    → find test (range_with_len joint (n - joint)) ≡ least
     → find test (range_with_len (joint + 1) (n - (joint + 1))) ≡ least
 least_further test joint n least below clear so_far =
     let one_more : n - joint ≡ suc (n - (joint + 1)) = omega (arith, below) in

@@ -1,9 +1,11 @@
 //! The component and its calls.
 
 ghost use Rattle.std.specs.Prelude.{◌≡◌, ◌<◌, ◌≤◌, ◌&&◌, true, length, slice_get, Some, None};
-ghost use Rattle.cm_model.specs.Components.{write_runs, ends, state_interfaces, command_interfaces, measured_states, mode_fault};
+ghost use Rattle.cm_model.specs.Components.{write_runs, ends, state_interfaces};
+ghost use Rattle.cm_model.specs.Components.{command_interfaces, measured_states, mode_fault};
 ghost use Rattle.hw_component.specs.Calls.Reads.{CanRead};
-ghost use Rattle.hw_component.specs.Hardware.{IsHardware, Prepares, after_read, after_write, after_step, with_claims, moves, after_move};
+ghost use Rattle.hw_component.specs.Hardware.{IsHardware, Prepares, after_read, after_write};
+ghost use Rattle.hw_component.specs.Hardware.{after_step, with_claims, moves, after_move};
 
 use crate::claims::{claim_joints, is_contested};
 use crate::faults::{HwFault, ModeFault};
@@ -15,8 +17,8 @@ use fixed_num::{BodyState, Value};
 use joint_body::{Body, LONGEST_STEP};
 use std::marker::Model;
 
-/// A hardware component, simulated. Its joints and its interfaces are counted from 0 within it, joint by joint as described. Contracts
-/// see what it is at one moment (`Hardware`). No call but `make` takes memory.
+/// A hardware component, simulated. Its joints and its interfaces are counted from 0 within it, joint by joint as
+/// described. Contracts see what it is at one moment (`Hardware`). No call but `make` takes memory.
 #[derive(Debug, Drop)]
 pub struct Component {
     pub(crate) description: CompDesc,
@@ -67,7 +69,8 @@ impl Component {
         self.states.as_slice()
     }
 
-    /// Its command interfaces, each at its number: a value for each is what a write takes, and a claim is such a number.
+    /// Its command interfaces, each at its number: a value for each is what a write takes, and a claim is such a
+    /// number.
     pub fn command_interfaces(&self) -> &[JointInterface]
         ensures { result.now ≡ command_interfaces self.now.description }
     {
@@ -82,8 +85,8 @@ impl Component {
         self.bodies[joint as usize].state()
     }
 
-    /// Sets the places of its state interfaces, in their order, to what its bodies measure at the moment, whatever its lifecycle state
-    /// is.
+    /// Sets the places of its state interfaces, in their order, to what its bodies measure at the moment, whatever its
+    /// lifecycle state is.
     pub fn measure(&self, states: &mut [Value])
         requires { length states.old ≡ length (state_interfaces self.now.description) }
         ensures { states.new ≡ measured_states self.now.description self.now.bodies }
@@ -91,8 +94,8 @@ impl Component {
         measure(states, self.states.as_slice(), self.bodies.as_slice());
     }
 
-    /// Reads the component in a cycle: sets the places of its state interfaces, in their order, to what its bodies measure. A read
-    /// that fails leaves them.
+    /// Reads the component in a cycle: sets the places of its state interfaces, in their order, to what its bodies
+    /// measure. A read that fails leaves them.
     pub fn read(&mut self, cycle: u64, states: &mut [Value]) -> Done
         requires { CanRead self.old states.old }
         ensures done { result ≡ ends self.old.description.fail_read cycle }
@@ -106,8 +109,8 @@ impl Component {
         Done::Ok
     }
 
-    /// Writes the component in a cycle: it takes what its command interfaces hold, in their order, for its next step. A write that
-    /// fails changes nothing.
+    /// Writes the component in a cycle: it takes what its command interfaces hold, in their order, for its next step. A
+    /// write that fails changes nothing.
     pub fn write(&mut self, cycle: u64, commands: &[Value]) -> Done
         requires runs { write_runs self.old.life ≡ true }
         requires places { length commands.now ≡ length (command_interfaces self.old.description) }
@@ -122,8 +125,8 @@ impl Component {
         Done::Ok
     }
 
-    /// Steps the body of each joint by `dt_us` microseconds. Where the component is active and was written since the last step, each
-    /// goes by its joint's mode and by what the claimed interface held; else nobody commands any.
+    /// Steps the body of each joint by `dt_us` microseconds. Where the component is active and was written since the
+    /// last step, each goes by its joint's mode and by what the claimed interface held; else nobody commands any.
     pub fn step(&mut self, dt_us: u32)
         requires some_time { 1 ≤ dt_us }
         requires no_longer { dt_us ≤ LONGEST_STEP }
@@ -153,7 +156,8 @@ impl Component {
         Ok(())
     }
 
-    /// From now on these command interfaces are claimed, and each joint's mode is the kind of the one that stands on it, or idle.
+    /// From now on these command interfaces are claimed, and each joint's mode is the kind of the one that stands on
+    /// it, or idle.
     pub fn perform(&mut self, claims: &[u32])
         requires { mode_fault self.old.description claims.now ≡ None }
         ensures { self.new ≡ with_claims self.old claims.now }
@@ -161,8 +165,8 @@ impl Component {
         claim_joints(&mut self.claimed, &self.commands, claims);
     }
 
-    /// Moves the component to a lifecycle state. Where it becomes unconfigured or finalized, what it was written last is forgotten. A
-    /// finalized component refuses every other state, and stays as it is.
+    /// Moves the component to a lifecycle state. Where it becomes unconfigured or finalized, what it was written last
+    /// is forgotten. A finalized component refuses every other state, and stays as it is.
     pub fn to_state(&mut self, target: Life) -> Result<(), HwFault>
         ensures answer { result ≡ moves self.old target }
         ensures state { self.new ≡ after_move self.old target }

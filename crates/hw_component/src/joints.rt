@@ -41,7 +41,8 @@ pub(crate) fn measure(places: &mut [Value], interfaces: &[JointInterface], bodie
     }
 }
 
-/// Steps each body: where the joints are commanded, as each is driven by its claimed interface, else where nobody commands them.
+/// Steps each body: where the joints are commanded, as each is driven by its claimed interface, else where nobody
+/// commands them.
 pub(crate) fn step_bodies(
     bodies: &mut [Body],
     is_commanded: bool,

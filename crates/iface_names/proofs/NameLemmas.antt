@@ -16,7 +16,8 @@ name_byte_ascii b h = grind (arith, nat_tests)
 -- what has name bytes alone is ASCII
 name_bytes_ascii : (bs : List ℕ) → list_all is_name_byte bs ≡ true → IsAscii bs
 name_bytes_ascii [] h = IsAscii-nil
-name_bytes_ascii (b ∷ bs) h = let both = and_parts _ _ h in IsAscii-cons b bs (name_byte_ascii b both.0) (name_bytes_ascii bs both.1)
+name_bytes_ascii (b ∷ bs) h =
+    let both = and_parts _ _ h in IsAscii-cons b bs (name_byte_ascii b both.0) (name_bytes_ascii bs both.1)
 
 -- a name is text
 pub is_name-IsUtf8 : (text : List ℕ) → is_name text ≡ true → IsUtf8 text

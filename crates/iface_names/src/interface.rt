@@ -33,8 +33,8 @@ pub enum IfaceName {
 }
 
 impl IfaceName {
-    /// The interface that this text names. BadName exactly where it is not `joint/kind` or `controller/joint/kind` with names by
-    /// the naming rule and one of the three kinds.
+    /// The interface that this text names. BadName exactly where it is not `joint/kind` or `controller/joint/kind` with
+    /// names by the naming rule and one of the three kinds.
     #[tactic(auto, unfolding(crate::specs::Interfaces::interface_of))]
     pub fn read(alloc: Global, text: &[u8]) -> Result<IfaceName, NameFault>
         ensures { Answers NameFault.Memory (interface_of text.now) result }

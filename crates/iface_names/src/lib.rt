@@ -1,5 +1,6 @@
-//! Names of controllers, joints and sessions, the interfaces that are named with them, and a registry that numbers interfaces.
-//! Each reading is exact: a text is refused only where the rule is broken, and what was read prints as the text that it came from.
+//! Names of controllers, joints and sessions, the interfaces that are named with them, and a registry that numbers
+//! interfaces. Each reading is exact: a text is refused only where the rule is broken, and what was read prints as the
+//! text that it came from.
 #![tactic(auto)]
 
 pub use interface::IfaceName;

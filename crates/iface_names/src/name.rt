@@ -15,7 +15,8 @@ use std::sync::Arc;
 use thiserror::Error;
 
 /// 1 to 64 bytes (`LONGEST_NAME`) of A to Z, a to z, 0 to 9 and `_`, of which the first is a letter. Contracts see the
-/// bytes. A name is kept once for all that hold it, also on several threads: a clone copies a pointer and takes no memory.
+/// bytes. A name is kept once for all that hold it, also on several threads: a clone copies a pointer and takes no
+/// memory.
 #[derive(Debug, Drop)]
 pub struct Name {
     text: Arc<String>,

@@ -54,7 +54,8 @@ impl Registry {
         }
     }
 
-    /// Gives a new interface the next place. It is Taken, with its place, where it is held; else Full where `limit` are held.
+    /// Gives a new interface the next place. It is Taken, with its place, where it is held; else Full where `limit` are
+    /// held.
     pub fn add(&mut self, name: IfaceName) -> Result<u32, RegFault>
         ensures answer { Answers RegFault.Memory (added self.old name).0 result }
         ensures ok { OnOk result (self.new ≡ (added self.old name).1) }

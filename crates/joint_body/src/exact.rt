@@ -1,4 +1,5 @@
-//! The arithmetic of a step, on whole micro-units. It is exact: a number is brought into the range or within a limit where the name says so.
+//! The arithmetic of a step, on whole micro-units. It is exact: a number is brought into the range or within a limit
+//! where the name says so.
 
 ghost use Rattle.std.specs.Prelude.{◌≡◌, ◌≤◌, ◌≤ℤ◌, ◌+ℤ◌, ◌*◌, pos, nat_abs};
 ghost use Rattle.fixed_num.specs.Arithmetic.{floor_div, within, change_at};

@@ -10,8 +10,8 @@ ghost use Rattle.fixed_num.specs.declared.value.Value.{Value};
 use crate::body::Body;
 use fixed_num::{Fx, JointMode, Value};
 
-/// A body whose position is commanded goes at most as far as its highest velocity takes it in the time, and is at its command as soon
-/// as that is no farther away.
+/// A body whose position is commanded goes at most as far as its highest velocity takes it in the time, and is at its
+/// command as soon as that is no farther away.
 #[tactic(auto, using(crate::proofs::BodyLemmas::approach_arrives), unfolding(fixed_num::specs::Bodies::stepped))]
 pub fn a_position_is_approached(body: &Body, command: Fx, dt_us: u32)
     ensures near { IsWithin (reach body.now dt_us) ((approaching body.now command dt_us).x -ℤ body.now.state.x) }
@@ -22,8 +22,8 @@ pub fn a_position_is_approached(body: &Body, command: Fx, dt_us: u32)
     command.micro();
 }
 
-/// After a step no velocity passes the highest, however the joint is driven: also where a position is commanded, since the velocity is
-/// then the rate at which the body went.
+/// After a step no velocity passes the highest, however the joint is driven: also where a position is commanded, since
+/// the velocity is then the rate at which the body went.
 pub fn no_velocity_passes_the_limit(body: &Body, mode: JointMode, command: Value, dt_us: u32)
     requires { 1 ≤ dt_us }
     ensures { IsWithin body.now.plant.vmax (after body.now mode command dt_us).v }

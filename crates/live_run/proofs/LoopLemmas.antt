@@ -1,5 +1,6 @@
 -- What the loop makes over its console are the calls of its cycles.
-use Rattle.std.proofs.Common.{◌≡◌, ℕ, suc, ◌+◌, List, [], ◌∷◌, ◌++◌, length, Result, Ok, Err, refl, subst, ap, ◌∙◌, append_assoc, length-append, inl, inr, ◌≤◌, arith}
+use Rattle.std.proofs.Common.{◌≡◌, ℕ, suc, ◌+◌, List, [], ◌∷◌, ◌++◌, length, Result, Ok, Err, refl}
+use Rattle.std.proofs.Common.{subst, ap, ◌∙◌, append_assoc, length-append, inl, inr, ◌≤◌, arith}
 use Rattle.std.specs.Prelude.{◌-◌, ◌<◌, OnOk, OnErr, MatchResult}
 use denote.Ref.{MutBor}
 use denote.Param.Members.{Shared}
@@ -16,13 +17,16 @@ use Rattle.cm_model.specs.declared.ports.LoopPort.{Ghosts}
 use Rattle.cm_model.proofs.ComesLemmas.{calls_more}
 use Rattle.live_run.specs.Loops.{IsAtFirst, MakesCycle, HasMade, HasLooped, HasStopped, Computes, MayLoop}
 
-ends_split : (es : List Entry) (who : ℕ) (call : Call) (r : Reply) → ends_in (with_entry es who call r) ≡ ends_in es + ends_in (with_entry [] who call r)
+ends_split : (es : List Entry) (who : ℕ) (call : Call) (r : Reply)
+    → ends_in (with_entry es who call r) ≡ ends_in es + ends_in (with_entry [] who call r)
 ends_split es who call r =
-    ap length (filter-append (λ (e : Entry). is_end e.call) es (record { who = who; call = call; reply = r } ∷ [])) ∙ length-append _ _
+    ap length (filter-append (λ (e : Entry). is_end e.call) es (record { who = who; call = call; reply = r } ∷ []))
+    ∙ length-append _ _
 
 pub begin_ends_none : (es : List Entry) (who n : ℕ) (r : Reply) → ends_in (with_entry es who (Begin n) r) ≡ ends_in es
 begin_ends_none es who n r =
-    let none : ends_in (with_entry [] who (Begin n) r) ≡ 0 = refl in let split = ends_split es who (Begin n) r in omega (arith, none, split)
+    let none : ends_in (with_entry [] who (Begin n) r) ≡ 0 = refl in let split = ends_split es who (Begin n) r in
+    omega (arith, none, split)
 
 pub end_ends_one : (es : List Entry) (who n : ℕ) (r : Reply) → ends_in (with_entry es who (End n) r) ≡ ends_in es + 1
 end_ends_one es who n r = ends_split es who (End n) r
@@ -36,7 +40,9 @@ cycle_made old mid new begins lands =
     lands.made.made ∙ ap (λ (k : ℕ). with_entry mid.made mid.who (End k) lands.made.r) ended in
     record {
       made = ap calls_of landed ∙ calls_more mid.made (record { who = mid.who; call = End n; reply = lands.made.r })
-          ∙ ap (λ calls. calls ++ End n ∷ []) (ap calls_of begins.made.made ∙ calls_more old.made (record { who = old.who; call = Begin n; reply = begins.made.r }))
+          ∙ ap (λ calls. calls ++ End n ∷ [])
+          (ap calls_of begins.made.made
+          ∙ calls_more old.made (record { who = old.who; call = Begin n; reply = begins.made.r }))
           ∙ append_assoc (calls_of old.made) (Begin n ∷ []) (End n ∷ []);
       ended = ap ends_in landed ∙ end_ends_one mid.made mid.who n lands.made.r ∙ ap (λ (k : ℕ). k + 1) ended;
       left = lands.left ∙ ap (λ (k : ℕ). k - 1) begins.left;
@@ -45,18 +51,23 @@ cycle_made old mid new begins lands =
     }
 
 -- the same where the console tells between them what it told
-pub cycle_computed : (old mid computed new : LoopConsole) → Begins old mid → computed ≡ mid → Lands computed new → MakesCycle old new
-cycle_computed old mid computed new begins same lands = cycle_made old mid new begins (subst (λ (c : LoopConsole). Lands c new) same lands)
+pub cycle_computed : (old mid computed new : LoopConsole) → Begins old mid → computed ≡ mid → Lands computed new
+    → MakesCycle old new
+cycle_computed old mid computed new begins same lands =
+    cycle_made old mid new begins (subst (λ (c : LoopConsole). Lands c new) same lands)
 
 -- the calls of one cycle more
-pub one_more_cycle : (calls more : List Call) (n : ℕ) → calls ≡ cycle_calls n → more ≡ calls ++ Begin n ∷ End n ∷ [] → more ≡ cycle_calls (n + 1)
+pub one_more_cycle : (calls more : List Call) (n : ℕ) → calls ≡ cycle_calls n → more ≡ calls ++ Begin n ∷ End n ∷ []
+    → more ≡ cycle_calls (n + 1)
 one_more_cycle calls more n so_far behind =
     let next : n + 1 ≡ suc n = omega arith in rw next (behind ∙ ap (λ made. made ++ Begin n ∷ End n ∷ []) so_far)
 
 -- and of the close
-pub close_made : (old new : LoopConsole) (n : ℕ) → calls_of old.made ≡ cycle_calls n → Closes old new → calls_of new.made ≡ loop_calls n
+pub close_made : (old new : LoopConsole) (n : ℕ) → calls_of old.made ≡ cycle_calls n → Closes old new
+    → calls_of new.made ≡ loop_calls n
 close_made old new n so_far closes =
-    ap calls_of closes.made.made ∙ calls_more old.made (record { who = old.who; call = Close; reply = closes.made.r }) ∙ ap (λ calls. calls ++ Close ∷ []) so_far
+    ap calls_of closes.made.made ∙ calls_more old.made (record { who = old.who; call = Close; reply = closes.made.r })
+    ∙ ap (λ calls. calls ++ Close ∷ []) so_far
 
 -- ---- The loop so far
 
@@ -81,7 +92,8 @@ module _ {L Flight : Type 0} (m : Ghosts L Flight) where
   }
 
   -- one cycle more
-  pub cycle_more : (cycles n : ℕ) (old mid new : L) → HasMade m cycles n old mid → MakesCycle (m.tells mid) (m.tells new)
+  pub cycle_more : (cycles n : ℕ) (old mid new : L) → HasMade m cycles n old mid
+      → MakesCycle (m.tells mid) (m.tells new)
       → m.footing new ≡ m.footing mid → HasMade m cycles (n + 1) old new
   cycle_more cycles n old mid new made cycle still = record {
     still = still ∙ made.still;
@@ -119,10 +131,13 @@ module _ {L Flight : Type 0} (m : Ghosts L Flight) where
   }
 
   -- so the loop has run, or has stopped
-  pub closed_behind : {X E : Type 0} (cycles : ℕ) (r : Result X E) (old mid new : L) → OnOk r (HasMade m cycles cycles old mid)
-      → OnErr r ((n : ℕ) × (n ≤ cycles) × HasMade m cycles n old mid) → Closes (m.tells mid) (m.tells new) → m.footing new ≡ m.footing mid
+  pub closed_behind : {X E : Type 0} (cycles : ℕ) (r : Result X E) (old mid new : L)
+      → OnOk r (HasMade m cycles cycles old mid)
+      → OnErr r ((n : ℕ) × (n ≤ cycles) × HasMade m cycles n old mid) → Closes (m.tells mid) (m.tells new)
+      → m.footing new ≡ m.footing mid
       → MatchResult r (λ _. HasLooped m cycles old new) (λ _. HasStopped m cycles old new)
-  closed_behind cycles (Ok x) old mid new all some closes still = close_behind cycles cycles old mid new all closes still
+  closed_behind cycles (Ok x) old mid new all some closes still =
+      close_behind cycles cycles old mid new all closes still
   closed_behind cycles (Err e) old mid new all some closes still = record {
     still = still ∙ some.2.still;
     so_far = inr (some.0, some.1, close_behind cycles some.0 old mid new some.2 closes still);
@@ -139,5 +154,6 @@ module _ {L Flight : Type 0} (m : Ghosts L Flight) where
 -- The console computes its flights by its own call, or by any that does the same.
 module _ {L Flight F : Type 0} (m : Ghosts L Flight)
     (g : Shared F (MutBor L × (MutBor Flight × Unit {0})) (Unit {0} × (MutBor L × (MutBor Flight × Unit {0})))) where
-  pub may_loop : (cycles : ℕ) (l : L) (compute : F) → IsAtFirst cycles (m.tells l) → Computes m g compute → MayLoop m g cycles l compute
+  pub may_loop : (cycles : ℕ) (l : L) (compute : F) → IsAtFirst cycles (m.tells l) → Computes m g compute
+      → MayLoop m g cycles l compute
   may_loop cycles l compute first computes = record { first = first; computes = computes }

@@ -27,7 +27,8 @@ pub sound_at : (loans : List Loan) (place : ℕ) → IsBoard loans → IsSound (
 sound_at loans place board = all_at IsSound loans place (idle false) board.sound (idle-IsSound false)
 
 -- a board with one place changed that is sound then
-pub with_loan-IsBoard : (loans : List Loan) (place : ℕ) (change : Loan → Loan) → IsBoard loans → IsSound (change (loan_at loans place)) → IsBoard (with_loan loans place change)
+pub with_loan-IsBoard : (loans : List Loan) (place : ℕ) (change : Loan → Loan) → IsBoard loans
+    → IsSound (change (loan_at loans place)) → IsBoard (with_loan loans place change)
 with_loan-IsBoard loans place change board one = record {
   sound = all_set IsSound loans place (change (loan_at loans place)) board.sound one;
   few = rw (length-set loans place (change (loan_at loans place))) board.few;
@@ -43,7 +44,8 @@ claimed-IsSound serial loan can = record { command = λ e. can.command; availabl
 
 -- one that nobody has
 pub free-IsSound : (loan : Loan) → loan.owner ≡ None → IsSound loan
-free-IsSound loan free = record { command = λ e. let bad = rw free at e in cc; available = λ e. let bad = rw free at e in cc }
+free-IsSound loan free =
+    record { command = λ e. let bad = rw free at e in cc; available = λ e. let bad = rw free at e in cc }
 
 -- every place of these is idle
 pub idle-IsBoard : (interfaces : List Interface) → length interfaces < 2 ^ 32 → IsBoard (map idle_of interfaces)

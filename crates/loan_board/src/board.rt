@@ -71,7 +71,8 @@ impl Board {
         self.loans[place as usize].is_available
     }
 
-    /// The serial of the controller that claims the interface. One that is claimed is a command interface or a reference, and available.
+    /// The serial of the controller that claims the interface. One that is claimed is a command interface or a
+    /// reference, and available.
     #[tactic(auto, using(crate::proofs::BoardLemmas::sound_at))]
     pub fn owner(&self, place: u32) -> Option<u32>
         requires { place < length self.now }
@@ -92,7 +93,8 @@ impl Board {
 
 // What is changed at a place. None of these calls takes memory, and each leaves every other place as it was.
 impl Board {
-    ghost use Rattle.loan_board.specs.Loans.{loan_at, with_loan, IsSound, set, claimed, released, made_available, lent, CanBeClaimed};
+    ghost use Rattle.loan_board.specs.Loans.{loan_at, with_loan, IsSound, set, claimed};
+    ghost use Rattle.loan_board.specs.Loans.{released, made_available, lent, CanBeClaimed};
 
     /// The interface holds this value.
     #[tactic(auto, using(crate::proofs::BoardLemmas::changes))]
@@ -103,7 +105,8 @@ impl Board {
         self.loans[place as usize].value = StoredValue::of(value);
     }
 
-    /// The controller of this serial claims the interface: a command interface or a reference that is free and available.
+    /// The controller of this serial claims the interface: a command interface or a reference that is free and
+    /// available.
     #[tactic(auto, using(crate::proofs::BoardLemmas::changes))]
     pub fn claim(&mut self, place: u32, serial: u32)
         requires place { place < length self.old }
@@ -138,8 +141,9 @@ impl Board {
         loan.value = StoredValue::of(value);
     }
 
-    /// The controller of this serial has the interface, or nobody, whoever had it; it is available or not; and it keeps what it holds
-    /// where it is said so, or else becomes Unset. One that somebody has is a command interface or a reference, and available.
+    /// The controller of this serial has the interface, or nobody, whoever had it; it is available or not; and it keeps
+    /// what it holds where it is said so, or else becomes Unset. One that somebody has is a command interface or a
+    /// reference, and available.
     #[tactic(auto, using(crate::proofs::BoardLemmas::changes))]
     pub fn lend(&mut self, place: u32, owner: Option<u32>, is_available: bool, keeps: bool)
         requires place { place < length self.old }

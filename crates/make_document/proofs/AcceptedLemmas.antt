@@ -20,5 +20,8 @@ made_is_accepted rounds few =
     let m = 10 * rounds in
     let script = script_lines rounds in
     ap (document_of whole_grammar) (parts_are m script (omega arith))
-    ∙ ap (λ (r : Result Description DescProblem). fault_as fault.Description r >>= λ description. fault_as fault.Script (accepted_script whole_grammar 78 (Some script)) >>= λ script. Ok (record { description = description; script = script })) (described m (omega arith))
-    ∙ ap (λ (r : Result Script ScriptFault). fault_as fault.Script r >>= λ script. Ok (record { description = robot_meant m; script = script })) (script_reads rounds few)
+    ∙ ap (λ (r : Result Description DescProblem). fault_as fault.Description r >>= λ description. fault_as fault.Script
+    (accepted_script whole_grammar 78 (Some script)) >>= λ script. Ok
+    (record { description = description; script = script })) (described m (omega arith))
+    ∙ ap (λ (r : Result Script ScriptFault). fault_as fault.Script r >>= λ script. Ok
+    (record { description = robot_meant m; script = script })) (script_reads rounds few)

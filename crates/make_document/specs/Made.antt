@@ -26,13 +26,15 @@ controller_name i = codes "f" ++ decimal i
 abbrev pub joint_lines : ℕ → List ℕ
 joint_lines i =
     codes
-    "[[component.joint]]\nname = \"" ++ joint_name i ++ codes "\"\nvmax = 1\ncommand = [\"position\"]\nstate = [\"position\"]\n"
+    "[[component.joint]]\nname = \"" ++ joint_name i
+    ++ codes "\"\nvmax = 1\ncommand = [\"position\"]\nstate = [\"position\"]\n"
 
 -- a controller, which claims the position of its joint
 abbrev pub controller_lines : ℕ → List ℕ
 controller_lines i =
     codes
-    "[[controller]]\nname = \"" ++ controller_name i ++ codes "\"\ntype = \"forward\"\nclaims = [\"" ++ joint_name i ++ codes "/position\"]\n"
+    "[[controller]]\nname = \"" ++ controller_name i ++ codes "\"\ntype = \"forward\"\nclaims = [\"" ++ joint_name i
+    ++ codes "/position\"]\n"
 
 -- one component with all joints, and the controllers
 unfoldable pub robot_lines : List ℕ

@@ -166,7 +166,8 @@ fn push_rounds(text: &mut String, rounds: u32) -> Result<(), Memory>
     Ok(())
 }
 
-/// Appends a round: a value is sent to one controller, the next one is stopped and started again, and the cycles are awaited.
+/// Appends a round: a value is sent to one controller, the next one is stopped and started again, and the cycles are
+/// awaited.
 fn push_round(text: &mut String, k: u64) -> Result<(), Memory>
     requires { k ≤ 2 ^ 32 }
     ensures { OnOk result (string_bytes text.new ≡ string_bytes text.old ++ round_lines k) }

@@ -1,5 +1,5 @@
-//! The made document: a robot of eight joints with a controller for each, and a script that in each round sends to one of the
-//! controllers and starts another one anew. Its size is the number of rounds.
+//! The made document: a robot of eight joints with a controller for each, and a script that in each round sends to one
+//! of the controllers and starts another one anew. Its size is the number of rounds.
 #![tactic(auto)]
 
 pub use document::make_document;

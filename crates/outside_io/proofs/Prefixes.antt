@@ -20,14 +20,22 @@ AppendsPrefix-all a b xs whole = (length xs, le_refl (length xs), subst (Appends
 
 -- All of some bytes are a front of them with more behind.
 pub AppendsPrefix-whole : (a b : Option (List ℕ)) (xs ys : List ℕ) → Appends a b xs → AppendsPrefix a b (xs ++ ys)
-AppendsPrefix-whole a b xs ys whole = (length xs, omega (arith, length-append xs ys), subst (Appends a b) (sym (take-append_seam xs ys)) whole)
+AppendsPrefix-whole a b xs ys whole =
+    (length xs, omega (arith, length-append xs ys), subst (Appends a b) (sym (take-append_seam xs ys)) whole)
 
 -- A front of some bytes is a front of them with more behind.
 pub AppendsPrefix-front : (a b : Option (List ℕ)) (xs ys : List ℕ) → AppendsPrefix a b xs → AppendsPrefix a b (xs ++ ys)
-AppendsPrefix-front a b xs ys front =
-    (front.0, omega (arith, length-append xs ys, front.1), subst (Appends a b) (sym (take-append-le front.0 xs ys front.1)) front.2)
+AppendsPrefix-front a b xs ys front = (
+  front.0,
+  omega (arith, length-append xs ys, front.1),
+  subst (Appends a b) (sym (take-append-le front.0 xs ys front.1)) front.2,
+)
 
 -- All of some bytes and then a front of others are a front of both.
-pub AppendsPrefix-then : (a b c : Option (List ℕ)) (xs ys : List ℕ) → Appends a b xs → AppendsPrefix b c ys → AppendsPrefix a c (xs ++ ys)
-AppendsPrefix-then a b c xs ys whole front =
-    (length xs + front.0, omega (arith, length-append xs ys, front.1), subst (Appends a c) (sym (take-append-add xs ys front.0)) (Appends-trans a b c xs (take front.0 ys) whole front.2))
+pub AppendsPrefix-then : (a b c : Option (List ℕ)) (xs ys : List ℕ) → Appends a b xs → AppendsPrefix b c ys
+    → AppendsPrefix a c (xs ++ ys)
+AppendsPrefix-then a b c xs ys whole front = (
+  length xs + front.0,
+  omega (arith, length-append xs ys, front.1),
+  subst (Appends a c) (sym (take-append-add xs ys front.0)) (Appends-trans a b c xs (take front.0 ys) whole front.2),
+)

@@ -45,8 +45,8 @@ impl Model for MemSink {
 }
 
 impl MemSink {
-    /// An empty sink with room for `room` bytes, which takes at most `step` of them a write and fails in the writes and flushes
-    /// whose numbers are listed; both are numbered together, from 0. `Memory` where the room can't be had.
+    /// An empty sink with room for `room` bytes, which takes at most `step` of them a write and fails in the writes and
+    /// flushes whose numbers are listed; both are numbered together, from 0. `Memory` where the room can't be had.
     pub fn make(alloc: Global, room: usize, step: usize, fails: Vec<u64>) -> Result<MemSink, Memory>
         requires { 0 < step }
         ensures { IfOk result (λ sink. sink ≡ unwritten room step fails.items) }

@@ -37,7 +37,8 @@ impl Model for MemSource {
 }
 
 impl MemSource {
-    /// A source of these bytes, which gives at most `step` of them a read and fails in the reads whose numbers, from 0, are listed.
+    /// A source of these bytes, which gives at most `step` of them a read and fails in the reads whose numbers, from 0,
+    /// are listed.
     pub fn make(bytes: Vec<u8>, step: usize, fails: Vec<u64>) -> MemSource
         requires { 0 < step }
         ensures { result ≡ unread bytes.items step fails.items }
@@ -56,8 +57,8 @@ impl Source for MemSource {
 
     ghost faults = { λ s. s.faults };
 
-    /// Gives as many bytes as the step, the buffer and what is left allow; behind them the buffer stays as it was. A listed read
-    /// fails, takes none and is a fault; it leaves all of the buffer as it was.
+    /// Gives as many bytes as the step, the buffer and what is left allow; behind them the buffer stays as it was. A
+    /// listed read fails, takes none and is a fault; it leaves all of the buffer as it was.
     fn read(&mut self, buf: &mut [u8]) -> Result<usize, Failed>
         ensures within { IfOk result (λ n. n ≤ length buf.new) }
         ensures bytes { ReadConsumes (Some self.old.left) (Some self.new.left) result buf.new }

@@ -6,8 +6,8 @@ ghost use Rattle.std.specs.Io.KnownBytes.{Keeps, Appends, ReadConsumes, WriteApp
 use crate::Failed;
 use std::io::{ErrorKind, Read, Write};
 
-/// How often a call is made while the system interrupts it. A signal that is handled interrupts one call, so as many in a row
-/// are no signals that pass by.
+/// How often a call is made while the system interrupts it. A signal that is handled interrupts one call, so as many in
+/// a row are no signals that pass by.
 pub const MOST_TRIES: u32 = 1_000;
 
 /// One read, made again where it is interrupted.
@@ -40,8 +40,8 @@ pub(crate) fn write<W: Write>(writer: &mut W, piece: &[u8]) -> Result<usize, Fai
     Err(Failed)
 }
 
-/// Writes all of some bytes, or a front of them where a write fails: how many bytes were written, and how it ended. A writer that
-/// takes none of them fails too, so that no loop over it goes on for ever.
+/// Writes all of some bytes, or a front of them where a write fails: how many bytes were written, and how it ended. A
+/// writer that takes none of them fails too, so that no loop over it goes on for ever.
 pub(crate) fn write_out<W: Write>(writer: &mut W, bytes: &[u8]) -> (usize, Result<(), Failed>)
     ensures within { result.0 ≤ length bytes.now }
     ensures all { OnOk result.1 (result.0 ≡ length bytes.now) }

@@ -14,8 +14,8 @@ pub trait Source {
     /// How often it failed. It never falls, and stands still at its type's end, 2^64 - 1.
     ghost faults: { Self → ℕ };
 
-    /// Reads the next bytes into the front of `buf` and answers how many. At `Ok(0)` with room in `buf` the source has ended.
-    /// `Failed` takes no byte. It counts one fault, and a read that went well counts none.
+    /// Reads the next bytes into the front of `buf` and answers how many. At `Ok(0)` with room in `buf` the source has
+    /// ended. `Failed` takes no byte. It counts one fault, and a read that went well counts none.
     fn read(&mut self, buf: &mut [u8]) -> Result<usize, Failed>
         ensures within { IfOk result (λ n. n ≤ length buf.new) }
         ensures bytes { ReadConsumes (left self.old) (left self.new) result buf.new }

@@ -44,9 +44,10 @@ impl<R: Read + Drop> Source for StdSource<R> {
     }
 }
 
-/// A sink over a writer of std, as standard output. What it takes is gathered, and `MOST_GATHERED` bytes are written at a time; a flush
-/// writes what is left. So a write that fails is told by a later call than those that took its bytes, and these bytes wait on. It tells
-/// of the bytes what the writer tells, those that wait behind them, and nothing of flushes. What waits when it is dropped is lost.
+/// A sink over a writer of std, as standard output. What it takes is gathered, and `MOST_GATHERED` bytes are written at
+/// a time; a flush writes what is left. So a write that fails is told by a later call than those that took its bytes,
+/// and these bytes wait on. It tells of the bytes what the writer tells, those that wait behind them, and nothing of
+/// flushes. What waits when it is dropped is lost.
 #[derive(Drop)]
 pub struct StdSink<W: Write + Drop> {
     inner: W,
@@ -117,14 +118,15 @@ impl<W: Write + Drop> Sink for StdSink<W> {
 
     ghost faults = { λ s. s.faults };
 
-    /// Takes as much as there is room for. Where there is none, what is gathered is written first, and a write that fails is told here:
-    /// then nothing is taken of the piece.
+    /// Takes as much as there is room for. Where there is none, what is gathered is written first, and a write that
+    /// fails is told here: then nothing is taken of the piece.
     fn write(&mut self, piece: &[u8]) -> Result<usize, Failed> {
         self.make_room()?;
         Ok(self.gathered.take_in(piece))
     }
 
-    /// Writes what is gathered, and passes it on. Calls that the system interrupts are made again, `MOST_TRIES` times in all.
+    /// Writes what is gathered, and passes it on. Calls that the system interrupts are made again, `MOST_TRIES` times
+    /// in all.
     fn flush(&mut self) -> Result<(), Failed>
         ensures bytes { Keeps (append_known (W.contents self.old.inner) self.old.gathered)
             (append_known (W.contents self.new.inner) self.new.gathered) }

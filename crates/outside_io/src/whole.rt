@@ -29,8 +29,8 @@ pub enum ReadFault {
 
 /// Reads to the end of a source that has at most `limit` bytes left.
 ///
-/// `TooLong` comes as soon as it gives byte `limit + 1`, and no byte more is read then; `Failed` exactly where a read failed, and
-/// no read follows that one; `Memory` only for want of memory. What was read before a fault is lost.
+/// `TooLong` comes as soon as it gives byte `limit + 1`, and no byte more is read then; `Failed` exactly where a read
+/// failed, and no read follows that one; `Memory` only for want of memory. What was read before a fault is lost.
 pub fn read_whole<S: Source>(
     alloc: Global,
     source: &mut S,

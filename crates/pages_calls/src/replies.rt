@@ -47,8 +47,8 @@ fn push_controller(told: &mut String, line: &CtlLine) -> Result<(), Fail> {
     Ok(())
 }
 
-/// Appends the interfaces by place, each with what it holds, and a command interface with the serial of its owner: `state 0.000000`,
-/// `command 0.125000 0`, `command unset free`, `command unavailable`.
+/// Appends the interfaces by place, each with what it holds, and a command interface with the serial of its owner:
+/// `state 0.000000`, `command 0.125000 0`, `command unset free`, `command unavailable`.
 fn push_interfaces(told: &mut String, lines: &[IfaceLine]) -> Result<(), Fail> {
     for line in lines {
         push_parted(told, "; ", if line.command { "command" } else { "state" })?;

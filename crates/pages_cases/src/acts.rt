@@ -13,8 +13,8 @@ pub trait Player: Sized + Drop {
     fn told(&mut self, alloc: Global, act: &str) -> Result<String, Fail>;
 }
 
-/// Fails at the first act of a page of which something else is told than it says, with what is told. A case is a paragraph:
-/// the lines that make a player, and then lines `ACT => TOLD`.
+/// Fails at the first act of a page of which something else is told than it says, with what is told. A case is a
+/// paragraph: the lines that make a player, and then lines `ACT => TOLD`.
 pub fn hold_acts<P: Player>(alloc: Global, before: &str, page: &str) -> Result<(), Fail> {
     let before = expanded(alloc, before)?;
     for case in page.split("\n\n") {

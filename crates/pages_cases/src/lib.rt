@@ -1,4 +1,5 @@
-//! Pages of cases: constant texts that a person reads, each case with what must be told of it, and what holds them against that.
+//! Pages of cases: constant texts that a person reads, each case with what must be told of it, and what holds them
+//! against that.
 #![tactic(auto)]
 
 pub mod acts;

@@ -10,8 +10,8 @@ pub trait Teller {
 }
 
 /// Fails at the first case of a page of which something else is told than it says, with what is told. A case is a
-/// paragraph: the lines of a text, and behind them `=> ` and what must be told, in one line or several. Before each text
-/// stands the same for all.
+/// paragraph: the lines of a text, and behind them `=> ` and what must be told, in one line or several. Before each
+/// text stands the same for all.
 pub fn hold<T: Teller>(alloc: Global, teller: &T, before: &str, page: &str) -> Result<(), Fail> {
     for case in page.split("\n\n") {
         hold_case(alloc, teller, before, case)?;
@@ -97,9 +97,9 @@ fn with_line_ends(alloc: Global, text: &str) -> Result<String, Fail> {
     Ok(text.as_str().replace(alloc, r"\n", "\n")?)
 }
 
-/// A text whose lines that ended with `\` go on in the next, and in which `<3..6 * PIECE>` stood for the piece three times:
-/// for the numbers 3, 4 and 5. In it `#` stands for the number and `#'` for the next one. The same holds of round
-/// brackets, also inside a piece. Brackets without a ` * ` stand as they are.
+/// A text whose lines that ended with `\` go on in the next, and in which `<3..6 * PIECE>` stood for the piece three
+/// times: for the numbers 3, 4 and 5. In it `#` stands for the number and `#'` for the next one. The same holds of
+/// round brackets, also inside a piece. Brackets without a ` * ` stand as they are.
 pub fn expanded(alloc: Global, text: &str) -> Result<String, Fail> {
     let lines = text.replace(alloc, "\\\n", "")?;
     let inside = repeated(alloc, lines.as_str(), '(', ')')?;

@@ -9,7 +9,8 @@ all_mapped f [] [] same each = refl
 all_mapped f [] (y ∷ ys) same each = absurd (omega (arith, same))
 all_mapped f (x ∷ xs) [] same each = absurd (omega (arith, same))
 all_mapped {A} f (x ∷ xs) (y ∷ ys) same each =
-    ap₂ (λ (z : A) (zs : List A). z ∷ zs) (each 0 x (omega arith)) (all_mapped f xs ys (omega (arith, same)) (λ i d within. each (suc i) d (omega (arith, within))))
+    ap₂ (λ (z : A) (zs : List A). z ∷ zs) (each 0 x (omega arith))
+    (all_mapped f xs ys (omega (arith, same)) (λ i d within. each (suc i) d (omega (arith, within))))
 
 -- what is told of each item is told of the other list's
 pub told_alike : {A B : Type 0} (f : A → B) (xs ys : List A) → length ys ≡ length xs
@@ -18,4 +19,5 @@ told_alike f [] [] same each = refl
 told_alike f [] (y ∷ ys) same each = absurd (omega (arith, same))
 told_alike f (x ∷ xs) [] same each = absurd (omega (arith, same))
 told_alike {A} {B} f (x ∷ xs) (y ∷ ys) same each =
-    ap₂ (λ (z : B) (zs : List B). z ∷ zs) (each 0 x (omega arith)) (told_alike f xs ys (omega (arith, same)) (λ i d within. each (suc i) d (omega (arith, within))))
+    ap₂ (λ (z : B) (zs : List B). z ∷ zs) (each 0 x (omega arith))
+    (told_alike f xs ys (omega (arith, same)) (λ i d within. each (suc i) d (omega (arith, within))))

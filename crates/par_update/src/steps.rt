@@ -10,8 +10,8 @@ use rt_flight::{Cell, step_in_turn};
 use std::thread;
 use std::thread::Threads;
 
-/// All of these make their steps, by so many workers, of which the caller's thread is one. No thread is made if at most one of them is
-/// updated.
+/// All of these make their steps, by so many workers, of which the caller's thread is one. No thread is made if at most
+/// one of them is updated.
 pub(crate) fn step_among<R: Threads + Sync, C: Controller + Send>(
     rt: &R,
     cells: &mut [Cell<C>],

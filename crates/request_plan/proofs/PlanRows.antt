@@ -17,26 +17,38 @@ above = record { serial = 7; place = 1; life = Inactive; chained = false; ready 
 
 -- the second comes, and the first restarts, for it is chained then
 abbrev comes : Switched
-comes = record { set = true ∷ true ∷ []; stopped = true ∷ false ∷ []; started = true ∷ true ∷ []; chained = true ∷ false ∷ [] }
+comes = record
+    { set = true ∷ true ∷ []; stopped = true ∷ false ∷ []; started = true ∷ true ∷ []; chained = true ∷ false ∷ [] }
 
 -- both leave
 abbrev both_leave : Switched
-both_leave = record { set = false ∷ false ∷ []; stopped = true ∷ true ∷ []; started = false ∷ false ∷ []; chained = false ∷ false ∷ [] }
+both_leave =
+    record {
+      set = false ∷ false ∷ [];
+      stopped = true ∷ true ∷ [];
+      started = false ∷ false ∷ [];
+      chained =
+          false ∷ false ∷ [];
+    }
 
 -- ---- Rows
 
 after_it_comes : loaded_after (act.Switch comes) (below ∷ above ∷ [])
-    ≡ record { serial = 4; place = 0; life = Active; chained = true; ready = true } ∷ record { serial = 7; place = 1; life = Active; chained = false; ready = true } ∷ []
+    ≡ record { serial = 4; place = 0; life = Active; chained = true; ready = true }
+    ∷ record { serial = 7; place = 1; life = Active; chained = false; ready = true } ∷ []
 after_it_comes = refl
 
-after_both_left : loaded_after (act.Switch both_leave) (record below { chained = true } ∷ record above { life = Active } ∷ [])
+after_both_left : loaded_after (act.Switch both_leave)
+    (record below { chained = true } ∷ record above { life = Active } ∷ [])
     ≡ record { serial = 4; place = 0; life = Inactive; chained = false; ready = true } ∷ above ∷ []
 after_both_left = refl
 
-after_a_move : (lives_after (act.Move 1 Finalized) (Active ∷ Inactive ∷ []) ≡ Active ∷ Finalized ∷ []) × (loaded_after (act.Move 1 Finalized) (below ∷ []) ≡ below ∷ [])
+after_a_move : (lives_after (act.Move 1 Finalized) (Active ∷ Inactive ∷ []) ≡ Active ∷ Finalized ∷ [])
+    × (loaded_after (act.Move 1 Finalized) (below ∷ []) ≡ below ∷ [])
 after_a_move = (refl, refl)
 
 -- a set by serials is one of places
-by_serial : (of_serials (below ∷ above ∷ []) (7 ∷ []) 1 ≡ true) × (of_serials (below ∷ above ∷ []) (7 ∷ []) 0 ≡ false) × (running (below ∷ above ∷ []) 0 ≡ true)
+by_serial : (of_serials (below ∷ above ∷ []) (7 ∷ []) 1 ≡ true) × (of_serials (below ∷ above ∷ []) (7 ∷ []) 0 ≡ false)
+    × (running (below ∷ above ∷ []) 0 ≡ true)
     × (running (below ∷ above ∷ []) 1 ≡ false)
 by_serial = (refl, refl, refl, refl)

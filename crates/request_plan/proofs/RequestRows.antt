@@ -1,4 +1,5 @@
--- Worked rows of requests as the desk keeps them, computed from the definitions alone: what is written down here is by hand.
+-- Worked rows of requests as the desk keeps them, computed from the definitions alone: what is written down here is by
+-- hand.
 use Rattle.std.proofs.Common.{◌≡◌, true, false, [], ◌∷◌, Some, refl}
 use Rattle.std.specs.Prelude.{codes, drop}
 use Rattle.cm_document.specs.Described.{a_description}
@@ -58,7 +59,10 @@ refused = (refl, refl, refl)
 
 -- the close ends the two that wait, and tells of them by ticket
 closed :
-    (close_effect (with_asked opening two_wait false) ≡ with_asked opening (record two_wait { outcomes = outcome.Done [] ∷ outcome.LoopEnded ∷ outcome.LoopEnded ∷ [] }) true)
+    (close_effect (with_asked opening two_wait false)
+    ≡ with_asked opening (record two_wait { outcomes = outcome.Done [] ∷ outcome.LoopEnded ∷ outcome.LoopEnded ∷ [] })
+    true)
     × (decisions_from 1 (drop 1 (outcome.Done [] ∷ outcome.LoopEnded ∷ outcome.LoopEnded ∷ []))
-    ≡ record { ticket = Some 1; outcome = outcome.LoopEnded } ∷ record { ticket = Some 2; outcome = outcome.LoopEnded } ∷ [])
+    ≡ record { ticket = Some 1; outcome = outcome.LoopEnded } ∷ record { ticket = Some 2; outcome = outcome.LoopEnded }
+    ∷ [])
 closed = (refl, refl)

@@ -1,5 +1,6 @@
 -- What is seen of a state after a switch was done, and after a component moved.
-use Rattle.std.proofs.Common.{◌≡◌, ℕ, zero, suc, ◌<◌, ◌≤◌, ℤ, Bool, true, false, List, [], ◌∷◌, length, map, Option, Some, None, inl, inr, refl, sym, ap, ap₂, ◌∙◌, true≢false, arith}
+use Rattle.std.proofs.Common.{◌≡◌, ℕ, zero, suc, ◌<◌, ◌≤◌, ℤ, Bool, true, false, List, [], ◌∷◌, length, map}
+use Rattle.std.proofs.Common.{Option, Some, None, inl, inr, refl, sym, ap, ap₂, ◌∙◌, true≢false, arith}
 use Rattle.std.specs.Prelude.{◌==◌, ◌&&◌, ◌||◌, not, if◌then◌else◌, is_some, slice_get}
 use Rattle.std.specs.List.{list_any, AllByRecursion}
 use Rattle.std.specs.Option.{option_map_or}
@@ -47,15 +48,24 @@ module _ (cs : List CtlDesc) (ls : List Loaded) (p : ℕ) where
   c = controller_at cs p
 
   -- what is described at a place precedes it
-  leads : (q : ℕ) → option_map_or (λ other. precedes other c) (slice_get cs q) false ≡ true → (q < length cs) × (precedes_at cs q p ≡ true)
+  leads : (q : ℕ) → option_map_or (λ other. precedes other c) (slice_get cs q) false ≡ true
+      → (q < length cs) × (precedes_at cs q p ≡ true)
   leads q is =
       elim (cases_lt q (length cs)) [
-        | inl below ↦ (below, ap (λ o. option_map_or (λ other. precedes other c) o false) (sym (slice_get-get_or cs q nobody below)) ∙ is)
-        | inr past ↦ absurd (true≢false (sym is ∙ ap (λ o. option_map_or (λ other. precedes other c) o false) (slice_get_past cs q past)))
+        | inl below ↦ (
+          below,
+          ap (λ o. option_map_or (λ other. precedes other c) o false) (sym (slice_get-get_or cs q nobody below)) ∙ is,
+        )
+        | inr past ↦ absurd
+            (true≢false (sym is
+            ∙ ap (λ o. option_map_or (λ other. precedes other c) o false) (slice_get_past cs q past)))
       ]
 
-  pub chained_among : list_any (λ l. is_active l && precedes_described cs c l) ls ≡ is_chained_in cs (has_loaded is_active ls) p
-  chained_among = both_ways (list_any (λ l. is_active l && precedes_described cs c l) ls) (is_chained_in cs (has_loaded is_active ls) p)
+  pub chained_among : list_any (λ l. is_active l && precedes_described cs c l) ls
+      ≡ is_chained_in cs (has_loaded is_active ls) p
+  chained_among =
+      both_ways (list_any (λ l. is_active l && precedes_described cs c l) ls)
+      (is_chained_in cs (has_loaded is_active ls) p)
       (λ any.
       let l = some_of (λ (l : Loaded). is_active l && precedes_described cs c l) ls any in
       let parts = and_parts (is_active l.0) (precedes_described cs c l.0) l.2 in
@@ -70,7 +80,8 @@ module _ (cs : List CtlDesc) (ls : List Loaded) (p : ℕ) where
       let parts = and_parts (has_loaded is_active ls q.0) (precedes_at cs q.0 p) q.2 in
       let l = some_of (λ (l : Loaded). is_active l && l.place == q.0) ls parts.0 in
       let runs = and_parts (is_active l.0) (l.0.place == q.0) l.2 in
-      let there : slice_get cs l.0.place ≡ Some (controller_at cs q.0) = ap (slice_get cs) (eqb-true l.0.place q.0 runs.1) ∙ slice_get-get_or cs q.0 nobody q.1 in
+      let there : slice_get cs l.0.place ≡ Some (controller_at cs q.0) =
+      ap (slice_get cs) (eqb-true l.0.place q.0 runs.1) ∙ slice_get-get_or cs q.0 nobody q.1 in
       any_from (λ (l : Loaded). is_active l && precedes_described cs c l) ls l.0 l.1
       (and_from (is_active l.0) (precedes_described cs c l.0) runs.0
       (ap (λ o. option_map_or (λ other. precedes other c) o false) there ∙ parts.1)))
@@ -97,13 +108,16 @@ chained_past cs set p past = none (length cs)
 
 -- it is in this lifecycle state by its parameters and whether it runs
 abbrev life_by : Option Params → Option RunData → Life
-life_by params run = elim params [ None ↦ Unconfigured | Some given ↦ elim run [ None ↦ Inactive | Some part ↦ Active ] ]
+life_by params run =
+    elim params [ None ↦ Unconfigured | Some given ↦ elim run [ None ↦ Inactive | Some part ↦ Active ] ]
 
 -- a controller that is activated, by its parameters
 abbrev activated_by : CtlData → Option Params → List ℤ → Bool → CtlData
-activated_by ctl params states chained = elim params [ None ↦ ctl | Some given ↦ record ctl { run = Some (started given states chained) } ]
+activated_by ctl params states chained =
+    elim params [ None ↦ ctl | Some given ↦ record ctl { run = Some (started given states chained) } ]
 
-comes_alive : (ctl : CtlData) (params : Option Params) (states : List ℤ) (chained : Bool) → ctl.params ≡ params → is_some params ≡ true
+comes_alive : (ctl : CtlData) (params : Option Params) (states : List ℤ) (chained : Bool) → ctl.params ≡ params
+    → is_some params ≡ true
     → life_of (activated_by ctl params states chained) ≡ Active
 comes_alive ctl None states chained is some = absurd (true≢false (sym some))
 comes_alive ctl (Some given) states chained is some = ap (λ o. life_by o (Some (started given states chained))) is
@@ -117,7 +131,8 @@ stays_ready ctl (Some given) states chained cycle = refl
 pub runs_in_scene : {cs : List CtlDesc} (l : Loaded) → IsOwn cs l → is_running (life_of l.ctl) ≡ is_active l
 runs_in_scene l own = by l.ctl.params l.ctl.run own.configured
   where
-    by : (params : Option Params) (run : Option RunData) → (is_some run ≡ true → is_some params ≡ true) → is_running (life_by params run) ≡ is_some run
+    by : (params : Option Params) (run : Option RunData) → (is_some run ≡ true → is_some params ≡ true)
+        → is_running (life_by params run) ≡ is_some run
     by None None configured = refl
     by None (Some part) configured = absurd (true≢false (sym (configured refl)))
     by (Some given) None configured = refl
@@ -127,7 +142,8 @@ falls_still : (params : Option Params) → is_some params ≡ true → life_by p
 falls_still None some = absurd (true≢false (sym some))
 falls_still (Some given) some = refl
 
-module _ (s : State) (set again : Places) (kept : IsInOrder s) (loaded : AreLoaded s.loaded set) (configured : AreConfigured s.loaded set) where
+module _ (s : State) (set again : Places) (kept : IsInOrder s) (loaded : AreLoaded s.loaded set)
+    (configured : AreConfigured s.loaded set) where
   abbrev stopped : Places
   stopped = is_stopped (scene_of s) set again
 
@@ -155,16 +171,20 @@ module _ (s : State) (set again : Places) (kept : IsInOrder s) (loaded : AreLoad
 
   -- its lifecycle state, by whether it starts and stops
   life_is : (b c : Bool) (l : Loaded) → IsKnown l → (b ≡ true → set l.place ≡ true) → (c ≡ true → is_active l ≡ true)
-      → life_of (if b then coming s set l else (if c then leaving l else l)).ctl ≡ (if b then Active else (if c then Inactive else life_of l.ctl))
+      → life_of (if b then coming s set l else (if c then leaving l else l)).ctl
+      ≡ (if b then Active else (if c then Inactive else life_of l.ctl))
   life_is true c l known member active =
-      comes_alive l.ctl l.ctl.params (states_for s.values (described_of s l)) (is_chained_in s.description.controllers set l.place) refl (known.fit (member refl))
+      comes_alive l.ctl l.ctl.params (states_for s.values (described_of s l))
+      (is_chained_in s.description.controllers set l.place) refl (known.fit (member refl))
   life_is false true l known member active = falls_still l.ctl.params (known.own.configured (active refl))
   life_is false false l known member active = refl
 
   -- all else that is seen of it
-  ready_is : (b c : Bool) (l : Loaded) → is_ready (if b then coming s set l else (if c then leaving l else l)).ctl s.ended ≡ is_ready l.ctl s.ended
+  ready_is : (b c : Bool) (l : Loaded)
+      → is_ready (if b then coming s set l else (if c then leaving l else l)).ctl s.ended ≡ is_ready l.ctl s.ended
   ready_is true c l =
-      stays_ready l.ctl l.ctl.params (states_for s.values (described_of s l)) (is_chained_in s.description.controllers set l.place) s.ended
+      stays_ready l.ctl l.ctl.params (states_for s.values (described_of s l))
+      (is_chained_in s.description.controllers set l.place) s.ended
   ready_is false true l = refl
   ready_is false false l = refl
 
@@ -180,15 +200,19 @@ module _ (s : State) (set again : Places) (kept : IsInOrder s) (loaded : AreLoad
 
   -- it starts only as a member, and stops only where it was active
   starts_member : (p : ℕ) → starts p ≡ true → set p ≡ true
-  starts_member p is = (and_parts (set p) (not (scenes.active (scene_of s) p) || restarts (scene_of s) set again p) is).0
+  starts_member p is =
+      (and_parts (set p) (not (scenes.active (scene_of s) p) || restarts (scene_of s) set again p) is).0
 
   stops_active : (l : Loaded) → IsKnown l → stopped l.place ≡ true → is_active l ≡ true
   stops_active l known is =
       sym known.at_place ∙ ap (λ f. f l.place) (sym (scene_active s kept.own))
-      ∙ (and_parts (scenes.active (scene_of s) l.place) (not (set l.place) || restarts (scene_of s) set again l.place) is).0
+      ∙ (and_parts (scenes.active (scene_of s) l.place) (not (set l.place) || restarts (scene_of s) set again l.place)
+      is).0
 
   -- the marks after it
-  chained_after : (l : Loaded) → is_active l ≡ set l.place → is_active l && is_chained after (described_of after l) ≡ (set l.place && is_chained_in s.description.controllers set l.place)
+  chained_after : (l : Loaded) → is_active l ≡ set l.place
+      → is_active l && is_chained after (described_of after l)
+      ≡ (set l.place && is_chained_in s.description.controllers set l.place)
   unfolding commit
   chained_after l runs =
       ap₂ (λ a b. a && b) runs
@@ -196,7 +220,8 @@ module _ (s : State) (set again : Places) (kept : IsInOrder s) (loaded : AreLoad
       ∙ ap (λ f. is_chained_in s.description.controllers f l.place) (commit_active s set again kept loaded configured))
 
   -- So one is seen after it.
-  seen_is : (l : Loaded) → IsKnown l → is_active (change l) ≡ set (change l).place → seen after (change l) ≡ shown (seen s l)
+  seen_is : (l : Loaded) → IsKnown l → is_active (change l) ≡ set (change l).place
+      → seen after (change l) ≡ shown (seen s l)
   unfolding commit
   seen_is l known runs =
       let at : (change l).place ≡ l.place = place_is (starts l.place) (stopped l.place) l in
@@ -222,7 +247,8 @@ module _ (s : State) (set again : Places) (kept : IsInOrder s) (loaded : AreLoad
         life = life;
         chained = is_active (change l) && is_chained after (described_of after (change l));
         ready = ready;
-      } in x) (life_is (starts l.place) (stopped l.place) l known (starts_member l.place) (stops_active l known)) (ready_is (starts l.place) (stopped l.place) l)
+      } in x) (life_is (starts l.place) (stopped l.place) l known (starts_member l.place) (stops_active l known))
+      (ready_is (starts l.place) (stopped l.place) l)
       ∙ ap (λ chained. let x : Seen = record {
         serial = l.serial;
         place = l.place;
@@ -236,9 +262,11 @@ module _ (s : State) (set again : Places) (kept : IsInOrder s) (loaded : AreLoad
   known : AllByRecursion IsKnown s.loaded
   known =
       all_from (IsOwn s.description.controllers)
-      (λ l. (has_loaded is_active s.loaded l.place ≡ is_active l) × (set l.place ≡ true → is_some l.ctl.params ≡ true)) IsKnown
+      (λ l. (has_loaded is_active s.loaded l.place ≡ is_active l) × (set l.place ≡ true → is_some l.ctl.params ≡ true))
+      IsKnown
       (λ l own both. record { own = own; at_place = both.0; fit = both.1 }) s.loaded kept.own
-      (all_from (λ l. has_loaded is_active s.loaded l.place ≡ is_active l) (λ l. set l.place ≡ true → is_some l.ctl.params ≡ true)
+      (all_from (λ l. has_loaded is_active s.loaded l.place ≡ is_active l)
+      (λ l. set l.place ≡ true → is_some l.ctl.params ≡ true)
       (λ l. (has_loaded is_active s.loaded l.place ≡ is_active l) × (set l.place ≡ true → is_some l.ctl.params ≡ true))
       (λ l active configured. (active, configured)) s.loaded (has_loaded-own is_active s.loaded kept.once) configured)
 
@@ -250,7 +278,8 @@ module _ (s : State) (set again : Places) (kept : IsInOrder s) (loaded : AreLoad
       (λ l own. sym own ∙ ap (λ f. f l.place) (commit_active s set again kept loaded configured)) after.loaded
       (has_loaded-own is_active after.loaded whole.once)
 
-  each_shown : (ls : List Loaded) → AllByRecursion IsKnown ls → AllByRecursion (λ l. is_active l ≡ set l.place) (map change ls)
+  each_shown : (ls : List Loaded) → AllByRecursion IsKnown ls
+      → AllByRecursion (λ l. is_active l ≡ set l.place) (map change ls)
       → map (seen after) (map change ls) ≡ map shown (map (seen s) ls)
   each_shown [] each runs = refl
   each_shown (l ∷ ls) each runs = ap₂ (λ x xs. x ∷ xs) (seen_is l each.0 runs.0) (each_shown ls each.1 runs.1)

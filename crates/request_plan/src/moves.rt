@@ -12,9 +12,9 @@ use cm_model::Cause;
 use fixed_num::Memory;
 use switch_plan::Relations;
 
-/// Why the component at a place, which is in this lifecycle state, is not brought to the target, where something speaks against it:
-/// there is no such move; or an active controller uses it, and its interfaces would not be available. The places of the active
-/// controllers stand in the order of their updates.
+/// Why the component at a place, which is in this lifecycle state, is not brought to the target, where something speaks
+/// against it: there is no such move; or an active controller uses it, and its interfaces would not be available. The
+/// places of the active controllers stand in the order of their updates.
 #[tactic(auto, using(crate::proofs::MoveLemmas::no_such_move, crate::proofs::MoveLemmas::stays_available))]
 pub(crate) fn move_fault(
     checked: &Checked,

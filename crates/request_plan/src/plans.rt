@@ -33,8 +33,9 @@ pub struct Plan {
     pub decisions: Rare<Decision>,
 }
 
-/// Plans what becomes of those that are to stand in, and then of requests, the first of which has this ticket, and what is done for them:
-/// one after the other, each in the state that the one before it left. Nothing is touched but the situation, which is used up.
+/// Plans what becomes of those that are to stand in, and then of requests, the first of which has this ticket, and what
+/// is done for them: one after the other, each in the state that the one before it left. Nothing is touched but the
+/// situation, which is used up.
 pub(crate) fn plan_all(
     alloc: Global,
     checked: &Checked,
@@ -62,7 +63,8 @@ pub(crate) fn plan_all(
     })
 }
 
-/// What is concluded of those that are to stand in: as many of them become active as can. The situation is that after it.
+/// What is concluded of those that are to stand in: as many of them become active as can. The situation is that after
+/// it.
 fn stand_in(
     alloc: Global,
     checked: &Checked,
@@ -142,7 +144,8 @@ fn conclude(
     }
 }
 
-/// What is decided with these conclusions: on those that are to stand in, and then by ticket, the first of which is this one.
+/// What is decided with these conclusions: on those that are to stand in, and then by ticket, the first of which is
+/// this one.
 fn decisions_of(
     alloc: Global,
     first: &Option<Conclusion>,

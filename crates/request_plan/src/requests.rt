@@ -1,6 +1,7 @@
 //! The requests that were made, and what became of them.
 
-ghost use Rattle.std.specs.Prelude.{◌≡◌, ◌+◌, ◌<◌, ◌≤◌, ◌^◌, true, false, [], ◌∷◌, ◌++◌, drop, length, map, nat_le, option_map, slice_get, vec_capacity, IfOk, OnErr};
+ghost use Rattle.std.specs.Prelude.{◌≡◌, ◌+◌, ◌<◌, ◌≤◌, ◌^◌, true, false, [], ◌∷◌, ◌++◌, drop, length};
+ghost use Rattle.std.specs.Prelude.{map, nat_le, option_map, slice_get, vec_capacity, IfOk, OnErr};
 ghost use Rattle.cm_model.specs.Boundary.{request_reply, request_effect, close_effect, close_reply, decisions_from};
 ghost use Rattle.cm_model.specs.State.{State};
 ghost use Rattle.cm_model.specs.declared.reply.Reply.TheVariants as reply;
@@ -20,8 +21,8 @@ use std::alloc::Global;
 use std::marker::Model;
 use switch_plan::Relations;
 
-/// The requests by ticket, and the outcomes of the first of them; the others wait. Room for an outcome comes with its request, and so
-/// does room for what a close tells, so that deciding and the close take no memory.
+/// The requests by ticket, and the outcomes of the first of them; the others wait. Room for an outcome comes with its
+/// request, and so does room for what a close tells, so that deciding and the close take no memory.
 #[derive(Debug, Drop)]
 pub struct Requests {
     requests: Vec<Request>,
@@ -54,8 +55,8 @@ impl Requests {
         }
     }
 
-    /// A request comes to wait under the next ticket, where the loop is open and fewer wait than can wait. Without memory nothing has
-    /// changed, nor where the tickets of 32 bits are used up.
+    /// A request comes to wait under the next ticket, where the loop is open and fewer wait than can wait. Without
+    /// memory nothing has changed, nor where the tickets of 32 bits are used up.
     pub fn ask(&mut self, alloc: Global, closed: bool, request: Request) -> Result<Reply, Memory>
         ensures made { IfOk result (λ reply. (s : State)
             → IsAnswered (request_reply (with_asked s self.old closed))
@@ -145,8 +146,8 @@ impl Requests {
         }
     }
 
-    /// Plans what becomes of those that are to stand in, by these names, and of those that wait, and what is done for them. Nothing is
-    /// touched.
+    /// Plans what becomes of those that are to stand in, by these names, and of those that wait, and what is done for
+    /// them. Nothing is touched.
     pub fn plan(
         &self,
         alloc: Global,

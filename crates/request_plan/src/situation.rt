@@ -1,4 +1,5 @@
-//! What requests are decided by: a picture of the loaded controllers and the components, which is brought on from request to request.
+//! What requests are decided by: a picture of the loaded controllers and the components, which is brought on from
+//! request to request.
 
 ghost use Rattle.std.specs.Prelude.{◌≡◌, ◌<◌, if◌then◌else◌, length, map, filter, IfOk, All};
 ghost use Rattle.cm_document.specs.declared.life.Life.TheVariants.{Inactive, Active};

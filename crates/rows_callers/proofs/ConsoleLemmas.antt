@@ -18,7 +18,12 @@ ends_made (suc n) =
 pub begins : (ended left : ℕ) (out closed : Bool) → CanBegin (loop_console ended left out closed)
     → Begins (loop_console ended left out closed) (loop_console ended left true closed)
 begins ended left false false can = record {
-  made = record { r = Done; made = ap (λ (n : ℕ). with_entry (cycles_made ended) the_loop (Begin n) Done) (sym (ends_made ended)); who = refl };
+  made = record {
+    r = Done;
+    made =
+        ap (λ (n : ℕ). with_entry (cycles_made ended) the_loop (Begin n) Done) (sym (ends_made ended));
+    who = refl;
+  };
   left = refl;
   out = refl;
   closed = refl;
@@ -26,14 +31,18 @@ begins ended left false false can = record {
 begins ended left false true can = absurd (let not_closed = can.not_closed in cc)
 begins ended left true closed can = absurd (let home = can.home in cc)
 
-pub lands : (ended left : ℕ) → Lands (loop_console ended left true false) (loop_console (ended + 1) (left - 1) false false)
+pub lands : (ended left : ℕ)
+    → Lands (loop_console ended left true false) (loop_console (ended + 1) (left - 1) false false)
 lands ended left =
     let next : ended + 1 ≡ suc ended = omega arith in
-    let begun : ends_in (with_entry (cycles_made ended) the_loop (Begin ended) Done) ≡ ended = begin_ends_none (cycles_made ended) the_loop ended Done ∙ ends_made ended in
+    let begun : ends_in (with_entry (cycles_made ended) the_loop (Begin ended) Done) ≡ ended =
+    begin_ends_none (cycles_made ended) the_loop ended Done ∙ ends_made ended in
     record {
       made = record {
         r = Done;
-        made = ap cycles_made next ∙ ap (λ (n : ℕ). with_entry (with_entry (cycles_made ended) the_loop (Begin ended) Done) the_loop (End n) Done) (sym begun);
+        made = ap cycles_made next
+            ∙ ap (λ (n : ℕ). with_entry (with_entry (cycles_made ended) the_loop (Begin ended) Done) the_loop (End n)
+            Done) (sym begun);
         who = refl;
       };
       left = refl;
@@ -43,6 +52,7 @@ lands ended left =
 
 pub closes : (ended left : ℕ) (out closed : Bool) → CanClose (loop_console ended left out closed)
     → Closes (loop_console ended left out closed) (loop_console ended left out true)
-closes ended left false false can = record { made = record { r = Done; made = refl; who = refl }; left = refl; out = refl; closed = refl }
+closes ended left false false can =
+    record { made = record { r = Done; made = refl; who = refl }; left = refl; out = refl; closed = refl }
 closes ended left false true can = absurd (let not_closed = can.not_closed in cc)
 closes ended left true closed can = absurd (let home = can.home in cc)

@@ -1,4 +1,5 @@
-//! Tests of the callers of a desk: a lock at which threads take turns, a session over a small console, and live runs over small consoles.
+//! Tests of the callers of a desk: a lock at which threads take turns, a session over a small console, and live runs
+//! over small consoles.
 #![tactic(auto)]
 
 #[cfg(test)]

@@ -24,8 +24,8 @@ fn a_session_makes_its_lines_and_is_told(rt: HostRuntime) -> Result<(), Fail> {
 
 // ---- A console
 
-/// A console of session 0. A load is given a serial, a switch and a move of a component a ticket; a send is refused, and every other call
-/// is done. It tells nothing of the history behind it.
+/// A console of session 0. A load is given a serial, a switch and a move of a component a ticket; a send is refused,
+/// and every other call is done. It tells nothing of the history behind it.
 #[derive(Drop)]
 struct Console {
     alloc: Global,
@@ -241,9 +241,10 @@ fn push_standing(told: &mut String, session: &Session) -> Result<(), Fail> {
     Ok(())
 }
 
-/// Behind an advance stands the entry that it made, or why none, and behind each act where the session stands: the number of its next line,
-/// the ticket that it has to be told of, and whether it has ended. A refused line is made like any other; a request holds the session until
-/// its ticket is decided, and one await until its cycle has ended; and want of memory leaves it where it is.
+/// Behind an advance stands the entry that it made, or why none, and behind each act where the session stands: the
+/// number of its next line, the ticket that it has to be told of, and whether it has ended. A refused line is made like
+/// any other; a request holds the session until its ticket is decided, and one await until its cycle has ended; and
+/// want of memory leaves it where it is.
 const SESSIONS: &str = "\
 load mk
 send mk 1

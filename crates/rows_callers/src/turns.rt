@@ -1,5 +1,5 @@
-//! A book of lines that passes write in turns: eight at once, one alone, and as many as a lock has; and passes that sleep. No clause
-//! promises that a turn comes, so each case has a limit of time.
+//! A book of lines that passes write in turns: eight at once, one alone, and as many as a lock has; and passes that
+//! sleep. No clause promises that a turn comes, so each case has a limit of time.
 
 ghost use Rattle.std.specs.Prelude.{◌≡◌, ◌+◌, ◌<◌, ◌≤◌, ◌^◌, ℕ, true, false, [], length, All, IfOk};
 ghost use Rattle.turn_lock.specs.Passes.{view, IsReady, IsSamePass, EachStays};
@@ -277,7 +277,8 @@ fn short(turns: u32) -> Work
     }
 }
 
-/// So many milliseconds pass between two looks at a case, and so many looks are taken at most: twenty seconds, where a case takes one.
+/// So many milliseconds pass between two looks at a case, and so many looks are taken at most: twenty seconds, where a
+/// case takes one.
 const BETWEEN_LOOKS: u64 = 10;
 
 const MOST_LOOKS: u32 = 2_000;

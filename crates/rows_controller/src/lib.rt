@@ -1,5 +1,5 @@
-//! Tests of the public calls of controllers, and of the stock of their blanks, call by call; and of transmissions and limiters, with a
-//! limiter beside a search of every step.
+//! Tests of the public calls of controllers, and of the stock of their blanks, call by call; and of transmissions and
+//! limiters, with a limiter beside a search of every step.
 #![tactic(auto)]
 
 #[cfg(test)]

@@ -1,5 +1,5 @@
-//! Bodies, step by step. The first line of a paragraph makes a body at rest; each further line is a step, of a number of seconds, and
-//! the position, the velocity and the effort that it leads to.
+//! Bodies, step by step. The first line of a paragraph makes a body at rest; each further line is a step, of a number
+//! of seconds, and the position, the velocity and the effort that it leads to.
 
 use fixed_num::{BodyState, Fx, JointMode, Value};
 use joint_body::{Body, LONGEST_STEP};

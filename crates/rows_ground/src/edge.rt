@@ -45,8 +45,8 @@ fn sink_of(alloc: Global, row: &str) -> Result<MemSink, Fail> {
     Ok(MemSink::make(alloc, part(row, 0).parse()?, step, fails)?)
 }
 
-/// Tells what five reads of four bytes give of a source in memory, each with all of the buffer, in which dots stand before
-/// the first.
+/// Tells what five reads of four bytes give of a source in memory, each with all of the buffer, in which dots stand
+/// before the first.
 #[derive(Clone, Copy)]
 struct FiveReads;
 

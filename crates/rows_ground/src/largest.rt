@@ -1,5 +1,5 @@
-//! A whole read and a whole write at the largest sizes. The bytes are compared by how many they are and by their checksum Adler-32,
-//! which `scripts/largest_answers` makes without this program.
+//! A whole read and a whole write at the largest sizes. The bytes are compared by how many they are and by their
+//! checksum Adler-32, which `scripts/largest_answers` makes without this program.
 
 use outside_io::{MemSink, MemSource, read_whole, write_whole};
 use pages_cases::largest::count_and_checksum;

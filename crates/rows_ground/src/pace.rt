@@ -9,11 +9,12 @@ use std::thread;
 /// The number at which both threads are done.
 const LAST: u64 = 2_000;
 
-/// So many looks and pauses a thread takes at most. With yields a few thousand do, also on one processor; without them a thread
-/// there wastes some hundred thousand looks at each number.
+/// So many looks and pauses a thread takes at most. With yields a few thousand do, also on one processor; without them
+/// a thread there wastes some hundred thousand looks at each number.
 const MOST_TURNS: u64 = 50_000_000;
 
-/// Adds one each time the number has this remainder by 2, and pauses while it has the other. Whether the last number came in time.
+/// Adds one each time the number has this remainder by 2, and pauses while it has the other. Whether the last number
+/// came in time.
 fn play(number: &AtomicU64, remainder: u64) -> bool {
     let mut pace = YieldPace;
     for turn in 0..MOST_TURNS {

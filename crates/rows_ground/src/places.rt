@@ -5,8 +5,8 @@ use pages_cases::pages::{Teller, halves, hold, push_parted};
 use std::alloc::Global;
 use std::test::Fail;
 
-/// Tells what a registry answers. The first line of a paragraph is the most that it has room for; each further line is a call:
-/// `add INTERFACE`, answered by its place and by how many are there; `place INTERFACE`; or `at PLACE`.
+/// Tells what a registry answers. The first line of a paragraph is the most that it has room for; each further line is
+/// a call: `add INTERFACE`, answered by its place and by how many are there; `place INTERFACE`; or `at PLACE`.
 #[derive(Clone, Copy)]
 struct Registries;
 
@@ -89,7 +89,8 @@ fn add(alloc: Global, registry: &mut Registry, index: u32) -> Result<(), Fail> {
     Err(Fail::new("another place"))
 }
 
-/// An interface that is there is refused before a registry that is full; a reference is another interface than the one that it is of.
+/// An interface that is there is refused before a registry that is full; a reference is another interface than the one
+/// that it is of.
 const CALLS: &str = "\
 3
 add j1/position

@@ -26,9 +26,10 @@ fn cycles_end_as_they_must(rt: HostRuntime) -> Result<(), Fail> {
     hold_acts::<Robot>(alloc, ARM_AND_LEG, OF_A_CHAIN)
 }
 
-/// A described robot. Of the end of a cycle, `ACTIVE; COMPONENTS; SERIALS`, with each active controller as `SERIAL:NAME` by serial, the
-/// places of the components that failed and the serials of the updates that failed, it tells the serials that stop; and then the names
-/// of the controllers that stay, that are stopped, that are started and that are chained, as they are described.
+/// A described robot. Of the end of a cycle, `ACTIVE; COMPONENTS; SERIALS`, with each active controller as
+/// `SERIAL:NAME` by serial, the places of the components that failed and the serials of the updates that failed, it
+/// tells the serials that stop; and then the names of the controllers that stay, that are stopped, that are started and
+/// that are chained, as they are described.
 #[derive(Drop)]
 struct Robot {
     checked: Checked,

@@ -26,8 +26,8 @@ const TOP: &str = "version = 1\nupdate_rate = 100\ncycles = 1\n";
 /// How long a cycle takes: ten milliseconds.
 const CYCLE_US: u32 = 10_000;
 
-/// A described robot, each of whose acts begins at its start: `move PLACE STATE` of a component, or `cycle N`. Behind what became of it
-/// stand the components and what their interfaces hold then.
+/// A described robot, each of whose acts begins at its start: `move PLACE STATE` of a component, or `cycle N`. Behind
+/// what became of it stand the components and what their interfaces hold then.
 #[derive(Drop)]
 struct Robot {
     checked: Checked,
@@ -125,9 +125,9 @@ fn push_lists(
     push_interface_list(alloc, told, description, hardware)
 }
 
-/// A component moves from each state to each, but that one which is finalized stays so; while it can be read its state interfaces hold
-/// numbers. A cycle reads those that are inactive or active, writes those that are active, and lets every body go on that nobody commands:
-/// it stands. Who fails has its state on error then.
+/// A component moves from each state to each, but that one which is finalized stays so; while it can be read its state
+/// interfaces hold numbers. A cycle reads those that are inactive or active, writes those that are active, and lets
+/// every body go on that nobody commands: it stands. Who fails has its state on error then.
 const ACTS: &str = r#"component = [
   { name = "arm", kind = "actuator", initial = "unconfigured", joint = [
     { name = "j", vmax = 1, position = 1, velocity = 3, command = ["position"], state = ["position", "velocity"] }] }]

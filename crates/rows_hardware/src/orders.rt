@@ -1,5 +1,5 @@
-//! The order in which active controllers are updated: by depth, and those of one depth by serial. And the heights of all that are
-//! described.
+//! The order in which active controllers are updated: by depth, and those of one depth by serial. And the heights of
+//! all that are described.
 
 ghost use Rattle.std.specs.Prelude.{◌<◌, IsTrue, All};
 
@@ -22,8 +22,8 @@ fn controllers_are_updated_in_their_order(rt: HostRuntime) -> Result<(), Fail> {
     hold_acts::<Robot>(alloc, SINKING, OF_SINKING)
 }
 
-/// A described robot. Of active controllers, each `SERIAL:NAME`, it tells the serials in the order of their updates; and of
-/// `heights` the height of each controller, as they are described.
+/// A described robot. Of active controllers, each `SERIAL:NAME`, it tells the serials in the order of their updates;
+/// and of `heights` the height of each controller, as they are described.
 #[derive(Drop)]
 struct Robot {
     checked: Checked,
@@ -107,8 +107,8 @@ nobody => none
 9:pid 8:jsb 7:fwd 6:traj 5:pt => 5 6 7 8 9
 0:fwd 1:pid 2:traj 3:traj2 4:jsb 5:mk 6:pt => 0 2 3 4 5 6 1";
 
-/// The one at the top claims a reference of the one in the middle, and that one of the one at the base. Where the middle is not
-/// active, neither of the others precedes the other.
+/// The one at the top claims a reference of the one in the middle, and that one of the one at the base. Where the
+/// middle is not active, neither of the others precedes the other.
 const OF_A_CHAIN: &str = "\
 heights => 0 0 0 2 1 0 0
 0:base 1:middle 2:top => 2 1 0

@@ -1,4 +1,5 @@
-//! Where the interfaces of each described controller stand on the board, and who claims and exports what stands at each place.
+//! Where the interfaces of each described controller stand on the board, and who claims and exports what stands at each
+//! place.
 
 ghost use Rattle.std.specs.Prelude.{◌<◌, ◌≤◌, length, IfOk};
 ghost use Rattle.cm_places.specs.Placed.{HasAllRows};
@@ -22,8 +23,8 @@ fn each_interface_of_a_controller_has_its_place(rt: HostRuntime) -> Result<(), F
 /// What stands before the components and controllers of a case.
 const TOP: &str = "version = 1\nupdate_rate = 100\ncycles = 1\n";
 
-/// Tells a line for each controller: its name, and the places of what it reads, exports and claims; and a line for each interface, by
-/// place: the controllers that claim it, and the one that exports it, by their places in the description.
+/// Tells a line for each controller: its name, and the places of what it reads, exports and claims; and a line for each
+/// interface, by place: the controllers that claim it, and the one that exports it, by their places in the description.
 #[derive(Clone, Copy)]
 struct Rows;
 
@@ -43,7 +44,8 @@ impl Teller for Counts {
     }
 }
 
-/// The places of a description: there is a row of each kind for each controller, and one of each kind for each interface.
+/// The places of a description: there is a row of each kind for each controller, and one of each kind for each
+/// interface.
 fn places_of(alloc: Global, checked: &Checked) -> Result<CtlPlaces, Fail>
     ensures { IfOk result (λ places. HasAllRows checked.now places) }
 {
@@ -148,8 +150,8 @@ fn counted(alloc: Global, checked: &Checked) -> Result<String, Fail> {
     Ok(format!(in alloc; "{read} read, {exported} exported, {claimed} claimed")?)
 }
 
-/// States stand first, joint by joint, then commands, then references, controller by controller. A state and a command of one joint and
-/// kind have one name and two places.
+/// States stand first, joint by joint, then commands, then references, controller by controller. A state and a command
+/// of one joint and kind have one name and two places.
 const PLACES: &str = r#"component = [
   { name = "arm", kind = "system", joint = [
     { name = "j1", vmax = 1, command = ["velocity", "position"], state = ["position", "velocity"] },

@@ -8,7 +8,8 @@ use pages_cases::words::whole;
 use std::alloc::Global;
 use std::test::Fail;
 
-/// Bodies that stand, move and stand again. A record shares a list only if one was made ready, and if its number has 32 bits.
+/// Bodies that stand, move and stand again. A record shares a list only if one was made ready, and if its number has 32
+/// bits.
 const CYCLES: &str = "\
 two joints
 ready => ok
@@ -36,7 +37,8 @@ fn records_share_a_list_while_the_bodies_stand(rt: HostRuntime) -> Result<(), Fa
     hold_acts::<Cycles>(rt.alloc(), "", CYCLES)
 }
 
-/// What is kept from cycle to cycle. `ready` takes the memory for a record of two joints. `CYCLE at X X` tells bodies at these positions.
+/// What is kept from cycle to cycle. `ready` takes the memory for a record of two joints. `CYCLE at X X` tells bodies
+/// at these positions.
 #[derive(Drop)]
 struct Cycles {
     standing: Standing,

@@ -244,7 +244,8 @@ fn push_kinds(
     Ok(())
 }
 
-/// Components in each lifecycle state, joints of several kinds and none, and references, which no active controller exports.
+/// Components in each lifecycle state, joints of several kinds and none, and references, which no active controller
+/// exports.
 const STARTS: &str = r#"component = []
 => none
 none

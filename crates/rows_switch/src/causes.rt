@@ -45,7 +45,8 @@ strict -fwd +nosuch => refused nosuch unknown;;
 best +nosuch +other +fwd +watch +watch +base => done dropped nosuch unknown, other not_configured, fwd already_active, \
 watch twice;; +base +watch"#;
 
-/// Faults of members: in each case the member whose fault is named comes after the other one, in the lists and by serial.
+/// Faults of members: in each case the member whose fault is named comes after the other one, in the lists and by
+/// serial.
 pub const MEMBERS: &str = r#"fwd inactive
 top inactive
 0 unconfigured

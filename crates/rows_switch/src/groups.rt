@@ -66,7 +66,8 @@ pid unconfigured
 strict +@motion => refused pid not_configured;;
 best +@motion => done dropped pid not_configured, traj unknown;;"#;
 
-/// A chain in which each controller leads the one behind it, and a group of them all: as many members as a group may have.
+/// A chain in which each controller leads the one behind it, and a group of them all: as many members as a group may
+/// have.
 pub const IN_A_CHAIN: &str = r#"version = 2
 update_rate = 100
 cycles = 1

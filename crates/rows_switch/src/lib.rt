@@ -1,5 +1,5 @@
-//! Tests of switch plans, scene by scene: a page has for each case the loaded controllers, and line by line a request with
-//! what must be told of its plan.
+//! Tests of switch plans, scene by scene: a page has for each case the loaded controllers, and line by line a request
+//! with what must be told of its plan.
 #![tactic(auto)]
 
 #[cfg(test)]

@@ -17,9 +17,9 @@ use std::alloc::Global;
 use std::test::Fail;
 use switch_plan::Relations;
 
-/// Each line has one request more that waits, and what is planned for it behind those before it: what becomes of it, who is stopped,
-/// started, active and chained, and the order of updates after it. A fifth does not come to wait, and a close ends all that do. Those
-/// behind `fallback` stand in before all requests.
+/// Each line has one request more that waits, and what is planned for it behind those before it: what becomes of it,
+/// who is stopped, started, active and chained, and the order of updates after it. A fifth does not come to wait, and a
+/// close ends all that do. Those behind `fallback` stand in before all requests.
 const PLANS: &str = r#"top inactive
 middle inactive
 base inactive
@@ -108,8 +108,8 @@ fn controllers_of(alloc: Global, picks: &[Pick]) -> Result<Seq<Name>, Fail> {
     Ok(names)
 }
 
-/// A scene in which requests wait. Besides a request an act is `close`, `told TICKET`: what became of the request, or `fallback` with
-/// the names of those that are to stand in.
+/// A scene in which requests wait. Besides a request an act is `close`, `told TICKET`: what became of the request, or
+/// `fallback` with the names of those that are to stand in.
 #[derive(Drop)]
 struct Queue {
     scene: Scene,

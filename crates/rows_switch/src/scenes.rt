@@ -44,7 +44,8 @@ pub(crate) struct Scene {
 }
 
 impl Player for Scene {
-    /// A scene of the robot before it: a line for each controller that is loaded, and for each component that is not active.
+    /// A scene of the robot before it: a line for each controller that is loaded, and for each component that is not
+    /// active.
     fn begin(alloc: Global, robot: &str, lines: &str) -> Result<Scene, Fail> {
         let mut scene = Scene::of(alloc, robot)?;
         for line in lines.lines() {
@@ -78,8 +79,8 @@ impl Scene {
         })
     }
 
-    /// `NAME STATE`: a controller that is loaded next, with `chained` for an active one that is, and `late` for an inactive
-    /// one that is not ready; or `PLACE STATE` of a component.
+    /// `NAME STATE`: a controller that is loaded next, with `chained` for an active one that is, and `late` for an
+    /// inactive one that is not ready; or `PLACE STATE` of a component.
     fn add(&mut self, line: &str) -> Result<(), Fail> {
         let (name, word) = halves(line, " ")?;
         let life = life_of(word);

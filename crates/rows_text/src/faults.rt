@@ -1,5 +1,5 @@
-//! How each fault of a document prints, as it stands within the fault of the whole document. What a status tells of it has its rows with
-//! the program.
+//! How each fault of a document prints, as it stands within the fault of the whole document. What a status tells of it
+//! has its rows with the program.
 
 use cm_document::{CheckFault, DescFault, DescProblem, DocumentFault, ScriptFault, Text, What};
 use iface_names::{IfaceName, Name};
@@ -7,8 +7,8 @@ use pages_cases::pages::hold_told;
 use std::alloc::Global;
 use std::test::Fail;
 
-/// A line for each fault below, in their order. A name stands as it is, without quotes; a key's own quotes, blanks and backslashes are its
-/// bytes, and its control characters are written as TOML writes them.
+/// A line for each fault below, in their order. A name stands as it is, without quotes; a key's own quotes, blanks and
+/// backslashes are its bytes, and its control characters are written as TOML writes them.
 const PRINTED: &str = r#"description: not_toml
 description: bad_key controller[0].rate
 description: bad_value component[12].joint[3].command[1]

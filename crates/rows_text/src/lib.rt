@@ -1,6 +1,6 @@
-//! Tests of the public calls that read words, that read and check descriptions, that read and print scripts, and that make documents: what
-//! no clause says, as that calls succeed where there is memory, and cases beside the clauses. Most are pages of text, each with what must be
-//! told of it.
+//! Tests of the public calls that read words, that read and check descriptions, that read and print scripts, and that
+//! make documents: what no clause says, as that calls succeed where there is memory, and cases beside the clauses. Most
+//! are pages of text, each with what must be told of it.
 #![tactic(auto)]
 
 #[cfg(test)]

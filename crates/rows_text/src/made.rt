@@ -1,4 +1,5 @@
-//! Made documents: small ones whole, the largest one by its first and last lines, its length and its checksum, and what is read of them.
+//! Made documents: small ones whole, the largest one by its first and last lines, its length and its checksum, and what
+//! is read of them.
 
 use crate::scripts::CountsOfScript;
 use make_document::make_document;
@@ -154,8 +155,8 @@ switch strict -f1
 switch strict +f1
 await 10000";
 
-/// The largest that may be asked for, without the end of its last line: 1,559 bytes before the rounds, 56 a round, and the digits of
-/// what each awaits, 2 of nine rounds, 3 of 90, 4 of 900 and 5 of the last.
+/// The largest that may be asked for, without the end of its last line: 1,559 bytes before the rounds, 56 a round, and
+/// the digits of what each awaits, 2 of nine rounds, 3 of 90, 4 of 900 and 5 of the last.
 const LARGEST: &str = "1000 => 5 bytes: 61451 a67f836b";
 
 /// What is read, and of how many sessions and calls.

@@ -17,8 +17,8 @@ fn want_of_memory_prints_as_its_line(rt: HostRuntime) -> Result<(), Fail> {
     Ok(())
 }
 
-/// Tells the job that words ask for, between which bars stand, how many rounds are made, and how many workers there are if not one; or why
-/// they are refused.
+/// Tells the job that words ask for, between which bars stand, how many rounds are made, and how many workers there are
+/// if not one; or why they are refused.
 #[derive(Clone, Copy)]
 struct Asks;
 

@@ -21,7 +21,8 @@ bare_runners (l ∷ ls) = ap (λ (rs : List Runner). runner_of l ∷ rs) (bare_r
 -- so the same run where the core is the same
 same_runners : (s t : State) → core s ≡ core t → runners s ≡ runners t
 same_runners s t same =
-    sym (bare_runners (filter is_active s.loaded)) ∙ ap (λ (c : State). map runner_of c.loaded) same ∙ bare_runners (filter is_active t.loaded)
+    sym (bare_runners (filter is_active s.loaded)) ∙ ap (λ (c : State). map runner_of c.loaded) same
+    ∙ bare_runners (filter is_active t.loaded)
 
 pub stays_aloft : (begun s : State) (f : FlightFacts) → IsAloft begun f → IsAlike s begun → IsAloft s f
 stays_aloft begun s f is alike =
@@ -31,7 +32,8 @@ stays_aloft begun s f is alike =
     let lives = ap (λ (c : State). c.lives) same in
     let bodies = ap (λ (c : State). c.bodies) same in
     let values = ap (λ (c : State). c.values) same in
-    let flown : configuration s ≡ configuration begun = sym (core_configuration s) ∙ ap configuration same ∙ core_configuration begun in
+    let flown : configuration s ≡ configuration begun =
+    sym (core_configuration s) ∙ ap configuration same ∙ core_configuration begun in
     record {
       over = record {
         valid = subst IsValid (sym description) is.over.valid;
@@ -41,7 +43,8 @@ stays_aloft begun s f is alike =
         placed = is.over.placed ∙ ap placed_of (sym description);
         related = is.over.related ∙ ap relations_of (sym description);
         timed = is.over.timed ∙ ap period (sym description);
-        hardware = running_hardware begun s description lives (same_runners s begun same) f.robot.hardware is.over.hardware bodies values;
+        hardware = running_hardware begun s description lives (same_runners s begun same) f.robot.hardware
+            is.over.hardware bodies values;
         cells = subst (λ (k : Configuration). AreCellsOf k.mails k.running f.cells) (sym flown) is.over.cells;
       };
       not_yet = is.not_yet;

@@ -31,14 +31,31 @@ cells C m = Vec.the_row (Cell.the_row C m) Heap.the_row heap_ghosts
 stage_send : (C : RattleType) (m : Ghosts C.Denot) → IsSend (Stage.the_row C m)
 stage_send C m = declared_send (Stage.the_type C m) (
   search sendable,
-  (search sendable, (search sendable, (search sendable, (search sendable, (search sendable, (seen_send (cells C m), (seen_send CycleContext.the_row, (seen_send (cells C m), tt)))))))),
+  (
+    search sendable,
+    (
+      search sendable,
+      (
+        search sendable,
+        (
+          search sendable,
+          (search sendable, (seen_send (cells C m), (seen_send CycleContext.the_row, (seen_send (cells C m), tt)))),
+        ),
+      ),
+    ),
+  ),
 )
 
 pub flight_send : (C : RattleType) (m : Ghosts C.Denot) → IsSend C → IsSend (Flight.the_row C m)
 flight_send C m s = view_send _ _ _ _ _ (declared_send (FlightInside.the_type C m) (
   search sendable,
   (
-    as_row_send (Vec.the_field (Cell.the_row C m) Heap.the_row heap_ghosts) (heap.Vec-send (Cell.the_row C m) (cell.the_send C m s)),
-    (as_row_send (Box.the_field CycleContext.the_row Heap.the_row heap_ghosts) (heap.Box-send CycleContext.the_row context.the_send), (stage_send C m, tt)),
+    as_row_send (Vec.the_field (Cell.the_row C m) Heap.the_row heap_ghosts)
+        (heap.Vec-send (Cell.the_row C m) (cell.the_send C m s)),
+    (
+      as_row_send (Box.the_field CycleContext.the_row Heap.the_row heap_ghosts)
+          (heap.Box-send CycleContext.the_row context.the_send),
+      (stage_send C m, tt),
+    ),
   ),
 ))

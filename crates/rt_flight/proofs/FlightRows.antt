@@ -14,7 +14,8 @@ use Rattle.loan_board.specs.Loans.{idle, set}
 use Rattle.loan_board.specs.declared.board.Loan.{Loan}
 use Rattle.cm_slots.specs.Updates.{Aloft}
 use Rattle.rt_flight.specs.Workspaces.{WorkspaceFacts}
-use Rattle.rt_flight.specs.Cells.{CellFacts, Flying, flying, all_flown, cells_after, cell_read, cell_run, all_put, precedes_in}
+use Rattle.rt_flight.specs.Cells.{CellFacts, Flying, flying, all_flown, cells_after}
+use Rattle.rt_flight.specs.Cells.{cell_read, cell_run, all_put, precedes_in}
 
 -- ---- Two controllers, the first of which gives the second its reference
 
@@ -22,14 +23,28 @@ use Rattle.rt_flight.specs.Cells.{CellFacts, Flying, flying, all_flown, cells_af
 abbrev board : Value → Value → Value → List Loan
 board state reference command = set state (idle false) ∷ set reference (idle true) ∷ set command (idle true) ∷ []
 
--- The first described controller, top, claims the reference that the second, low, exports. Low claims the command, of the one component.
--- These reads failed in the cycle of this number.
+-- The first described controller, top, claims the reference that the second, low, exports. Low claims the command, of
+-- the one component. These reads failed in the cycle of this number.
 abbrev round : ℕ → List FailedPart → Aloft
 round number failed = record {
   number = number;
   period_us = 1000;
-  placed = record { reads = [] ∷ [] ∷ []; references = [] ∷ (1 ∷ []) ∷ []; claims = (1 ∷ []) ∷ (2 ∷ []) ∷ []; claimers = []; exporters = [] };
-  related = record { leaders = [] ∷ (0 ∷ []) ∷ []; followers = (1 ∷ []) ∷ [] ∷ []; odds = [] ∷ [] ∷ []; components = [] ∷ (0 ∷ []) ∷ []; heights = 1 ∷ 0 ∷ [] };
+  placed = record {
+    reads = [] ∷ [] ∷ [];
+    references = [] ∷ (1 ∷ []) ∷ [];
+    claims = (1 ∷ []) ∷ (2 ∷ []) ∷ [];
+    claimers =
+        [];
+    exporters = [];
+  };
+  related = record {
+    leaders = [] ∷ (0 ∷ []) ∷ [];
+    followers = (1 ∷ []) ∷ [] ∷ [];
+    odds = [] ∷ [] ∷ [];
+    components =
+        [] ∷ (0 ∷ []) ∷ [];
+    heights = 1 ∷ 0 ∷ [];
+  };
   failed = failed;
 }
 
@@ -74,24 +89,28 @@ abbrev told : ℕ → Value → Ran
 told serial out = record { serial = serial; done = done.Ok; outs = out ∷ []; published = [] }
 
 -- what top is sent comes through to the command in one cycle
-comes_through : all_flown (round 4 []) (top Unset sent Unset ∷ low 1 Unset Unset ∷ []) (over (board Unset Unset Unset) [] [])
+comes_through : all_flown (round 4 []) (top Unset sent Unset ∷ low 1 Unset Unset ∷ [])
+    (over (board Unset Unset Unset) [] [])
     ≡ over (board Unset one_and_a_half one_and_a_half) (told 7 one_and_a_half ∷ told 5 one_and_a_half ∷ []) []
 comes_through = refl
 
 -- and the mail is taken
-is_taken : cells_after (round 4 []) (top Unset sent Unset ∷ low 1 Unset Unset ∷ []) (over (board Unset Unset Unset) [] [])
+is_taken : cells_after (round 4 []) (top Unset sent Unset ∷ low 1 Unset Unset ∷ [])
+    (over (board Unset Unset Unset) [] [])
     ≡ top one_and_a_half None one_and_a_half ∷ low 1 one_and_a_half one_and_a_half ∷ []
 is_taken = refl
 
 -- in the other order it comes a cycle late
-comes_late : all_flown (round 4 []) (low 1 Unset Unset ∷ top Unset sent Unset ∷ []) (over (board Unset Unset Unset) [] [])
+comes_late : all_flown (round 4 []) (low 1 Unset Unset ∷ top Unset sent Unset ∷ [])
+    (over (board Unset Unset Unset) [] [])
     ≡ over (board Unset one_and_a_half Unset) (told 5 Unset ∷ told 7 one_and_a_half ∷ []) []
 comes_late = refl
 
 -- as it would if both read before either gives out: so low waits for top
 comes_late_together :
     all_put (round 4 []).placed
-    (map cell_run (map (cell_read (round 4 []) (board Unset Unset Unset)) (top Unset sent Unset ∷ low 1 Unset Unset ∷ [])))
+    (map cell_run
+    (map (cell_read (round 4 []) (board Unset Unset Unset)) (top Unset sent Unset ∷ low 1 Unset Unset ∷ [])))
     (over (board Unset Unset Unset) [] [])
     ≡ over (board Unset one_and_a_half Unset) (told 7 one_and_a_half ∷ told 5 Unset ∷ []) []
 comes_late_together = refl
@@ -100,13 +119,15 @@ waits : precedes_in (round 4 []).related (top Unset sent Unset) (low 1 Unset Uns
 waits = refl
 
 -- where the read of its component failed, low is held off, and the command holds what it held
-is_held_off : all_flown (round 4 (record { place = 0; reading = true } ∷ [])) (top Unset sent Unset ∷ low 1 Unset Unset ∷ [])
+is_held_off : all_flown (round 4 (record { place = 0; reading = true } ∷ []))
+    (top Unset sent Unset ∷ low 1 Unset Unset ∷ [])
     (over (board Unset Unset (Num (pos 3))) [] [])
     ≡ over (board Unset one_and_a_half (Num (pos 3))) (told 7 one_and_a_half ∷ []) []
 is_held_off = refl
 
 -- so it is where it is not due: it is updated in each third cycle, and this is the fourth
-is_not_due : all_flown (round 4 []) (top Unset sent Unset ∷ low 3 Unset Unset ∷ []) (over (board Unset Unset (Num (pos 3))) [] [])
+is_not_due : all_flown (round 4 []) (top Unset sent Unset ∷ low 3 Unset Unset ∷ [])
+    (over (board Unset Unset (Num (pos 3))) [] [])
     ≡ over (board Unset one_and_a_half (Num (pos 3))) (told 7 one_and_a_half ∷ []) []
 is_not_due = refl
 
@@ -116,7 +137,8 @@ is_not_due = refl
 abbrev mock : ℕ → CellFacts
 mock fails = record {
   workspace = workspace 5 1 1 (Unset ∷ []) (Num (pos 8));
-  ctl = record { kind = kind.Mock; params = Some (Mock 1 false [] (fails ∷ [])); run = Some (run.Set false (Num (pos 9) ∷ [])) };
+  ctl = record
+      { kind = kind.Mock; params = Some (Mock 1 false [] (fails ∷ [])); run = Some (run.Set false (Num (pos 9) ∷ [])) };
   mail = None;
   depth = 0;
   turn = None;
@@ -125,7 +147,8 @@ mock fails = record {
 
 -- its serial is told, and the command holds what it held, as its workspace does
 fails : all_flown (round 4 []) (mock 4 ∷ []) (over (board Unset Unset (Num (pos 3))) [] [])
-    ≡ over (board Unset Unset (Num (pos 3))) (record { serial = 5; done = done.Error; outs = []; published = [] } ∷ []) (5 ∷ [])
+    ≡ over (board Unset Unset (Num (pos 3))) (record { serial = 5; done = done.Error; outs = []; published = [] } ∷ [])
+    (5 ∷ [])
 fails = refl
 
 keeps_outs : cells_after (round 4 []) (mock 4 ∷ []) (over (board Unset Unset (Num (pos 3))) [] []) ≡ mock 4 ∷ []

@@ -21,7 +21,8 @@ posted w kind outs = record {
 }
 
 -- other outputs, as many of them, in a workspace that is the same in all else
-pub post_stays : (w w' : WorkspaceFacts) (ctl ctl' : CtlData) (mail mail' : Option Mail) (depth : ℕ) (turn turn' : Option Tick) (told told' : Option Done)
+pub post_stays : (w w' : WorkspaceFacts) (ctl ctl' : CtlData) (mail mail' : Option Mail) (depth : ℕ)
+    (turn turn' : Option Tick) (told told' : Option Done)
     → w' ≡ record w { outs = w'.outs } → length w'.outs ≡ length w.outs → ctl'.kind ≡ ctl.kind
     → post_of (record { workspace = w'; ctl = ctl'; mail = mail'; depth = depth; turn = turn'; done = told' })
     ≡ post_of (record { workspace = w; ctl = ctl; mail = mail; depth = depth; turn = turn; done = told })

@@ -1,10 +1,13 @@
 -- That the depths which are put down cell by cell are the ranks of the cells' places.
-use Rattle.std.proofs.Common.{◌≡◌, ◌⊎◌, ℕ, zero, suc, ◌+◌, ◌-◌, ◌<◌, ◌≤◌, ◌^◌, Bool, true, false, List, [], ◌∷◌, ◌++◌, length, map, take, drop, slice_set, inl, inr, refl, sym, ap, ap₂, subst, ◌∙◌, arith}
+use Rattle.std.proofs.Common.{◌≡◌, ◌⊎◌, ℕ, zero, suc, ◌+◌, ◌-◌, ◌<◌, ◌≤◌, ◌^◌, Bool, true, false, List, [], ◌∷◌, ◌++◌}
+use Rattle.std.proofs.Common.{length, map, take, drop, slice_set, inl, inr, refl, sym, ap, ap₂, subst, ◌∙◌, arith}
 use Rattle.std.specs.Prelude.{◌==◌, ◌||◌, max, slice_index_or, slice_range}
 use Rattle.std.specs.List.{AllByRecursion, list_any}
 use Rattle.std.proofs.lemmas.Bool.{cases_lt, eq-eqb, false_from_ne_true, true≢false}
 use Rattle.std.proofs.lemmas.Bool.Decides.{nat_tests}
-use Rattle.std.proofs.lemmas.List.{drop-append-le, drop-map, drop-take, drop_more, get_or-map, get_or_default, length-drop, length-map, length-take-le, take-append-drop, take-append-le, take-map, take_more, take_more_set}
+use Rattle.std.proofs.lemmas.List.{drop-append-le, drop-map, drop-take, drop_more, get_or-map}
+use Rattle.std.proofs.lemmas.List.{get_or_default, length-drop, length-map, length-take-le}
+use Rattle.std.proofs.lemmas.List.{take-append-drop, take-append-le, take-map, take_more, take_more_set}
 use Rattle.std.proofs.Math.Seq.{drop-append_seam, take-append_seam}
 use Rattle.cm_model.specs.Components.{is_listed}
 use Rattle.chain_order.specs.Links.{linked}
@@ -26,7 +29,9 @@ pub deepened_places : (cs ds : List CellFacts) → AreDeepened cs ds → places_
 deepened_places [] [] same = refl
 deepened_places [] (d ∷ ds) same = absurd same
 deepened_places (c ∷ cs) [] same = absurd same
-deepened_places (c ∷ cs) (d ∷ ds) same = ap₂ (λ (n : ℕ) (ns : List ℕ). n ∷ ns) (ap (λ (e : CellFacts). e.workspace.place) same.0) (deepened_places cs ds same.1)
+deepened_places (c ∷ cs) (d ∷ ds) same =
+    ap₂ (λ (n : ℕ) (ns : List ℕ). n ∷ ns) (ap (λ (e : CellFacts). e.workspace.place) same.0)
+    (deepened_places cs ds same.1)
 
 -- one of them is put down anew
 pub deepened_set : (cs ds : List CellFacts) (i n : ℕ) (d : CellFacts) → AreDeepened cs ds → i < length ds
@@ -34,39 +39,50 @@ pub deepened_set : (cs ds : List CellFacts) (i n : ℕ) (d : CellFacts) → AreD
 deepened_set [] [] i n other same within = absurd (omega (arith, within))
 deepened_set [] (d ∷ ds) i n other same within = absurd same
 deepened_set (c ∷ cs) [] i n other same within = absurd same
-deepened_set (c ∷ cs) (d ∷ ds) zero n other same within = (ap (λ (e : CellFacts). record e { depth = n }) same.0, same.1)
-deepened_set (c ∷ cs) (d ∷ ds) (suc i) n other same within = (same.0, deepened_set cs ds i n other same.1 (omega (arith, within)))
+deepened_set (c ∷ cs) (d ∷ ds) zero n other same within =
+    (ap (λ (e : CellFacts). record e { depth = n }) same.0, same.1)
+deepened_set (c ∷ cs) (d ∷ ds) (suc i) n other same within =
+    (same.0, deepened_set cs ds i n other same.1 (omega (arith, within)))
 
 -- what does not go by depths goes over
-pub all_deepened : (P : CellFacts → Type 0) → ((c : CellFacts) (n : ℕ) → P c → P (record c { depth = n })) → (cs ds : List CellFacts) → AreDeepened cs ds → AllByRecursion P cs
+pub all_deepened : (P : CellFacts → Type 0) → ((c : CellFacts) (n : ℕ) → P c → P (record c { depth = n }))
+    → (cs ds : List CellFacts) → AreDeepened cs ds → AllByRecursion P cs
     → AllByRecursion P ds
 all_deepened P over [] [] same all = tt
 all_deepened P over [] (d ∷ ds) same all = absurd same
 all_deepened P over (c ∷ cs) [] same all = absurd same
-all_deepened P over (c ∷ cs) (d ∷ ds) same all = (subst P (sym same.0) (over c d.depth all.0), all_deepened P over cs ds same.1 all.1)
+all_deepened P over (c ∷ cs) (d ∷ ds) same all =
+    (subst P (sym same.0) (over c d.depth all.0), all_deepened P over cs ds same.1 all.1)
 
 -- and what is worked out of each without its depth is the same
-pub deepened_map : {A : Type 0} (f : CellFacts → A) → ((c : CellFacts) (n : ℕ) → f (record c { depth = n }) ≡ f c) → (cs ds : List CellFacts) → AreDeepened cs ds → map f ds ≡ map f cs
+pub deepened_map : {A : Type 0} (f : CellFacts → A) → ((c : CellFacts) (n : ℕ) → f (record c { depth = n }) ≡ f c)
+    → (cs ds : List CellFacts) → AreDeepened cs ds → map f ds ≡ map f cs
 deepened_map f over [] [] same = refl
 deepened_map f over [] (d ∷ ds) same = absurd same
 deepened_map f over (c ∷ cs) [] same = absurd same
-deepened_map {A} f over (c ∷ cs) (d ∷ ds) same = ap₂ (λ (x : A) (xs : List A). x ∷ xs) (ap f same.0 ∙ over c d.depth) (deepened_map f over cs ds same.1)
+deepened_map {A} f over (c ∷ cs) (d ∷ ds) same =
+    ap₂ (λ (x : A) (xs : List A). x ∷ xs) (ap f same.0 ∙ over c d.depth) (deepened_map f over cs ds same.1)
 
 -- ---- Who leads
 
 -- to look among the cells for one that precedes another is to look among their places
 pub led_range : (related : Related) (cells : List CellFacts) (first i : ℕ) (item : CellFacts) → first ≤ i
-    → list_any (λ d. precedes_in related d item) (slice_range cells first i) ≡ is_led_by related (drop first (take i (places_in cells))) item.workspace.place
+    → list_any (λ d. precedes_in related d item) (slice_range cells first i)
+    ≡ is_led_by related (drop first (take i (places_in cells))) item.workspace.place
 led_range related cells first i item within =
     let upto : first + (i - first) ≡ i = omega (arith, within) in
-    sym (any_map (is_listed (linked related.leaders item.workspace.place)) (λ (c : CellFacts). c.workspace.place) (slice_range cells first i))
+    sym (any_map (is_listed (linked related.leaders item.workspace.place)) (λ (c : CellFacts). c.workspace.place)
+    (slice_range cells first i))
     ∙ ap (λ (ps : List ℕ). is_led_by related ps item.workspace.place)
-    (sym (take-map (λ (c : CellFacts). c.workspace.place) (i - first) (drop first cells)) ∙ ap (take (i - first)) (sym (drop-map (λ (c : CellFacts). c.workspace.place) first cells))
+    (sym (take-map (λ (c : CellFacts). c.workspace.place) (i - first) (drop first cells))
+    ∙ ap (take (i - first)) (sym (drop-map (λ (c : CellFacts). c.workspace.place) first cells))
     ∙ sym (drop-take first (i - first) (places_in cells)) ∙ ap (λ (k : ℕ). drop first (take k (places_in cells))) upto)
 
-pub place_of : (cells : List CellFacts) (i : ℕ) (item : CellFacts) → i < length cells → item ≡ slice_index_or cells i item → item.workspace.place ≡ slice_index_or (places_in cells) i 0
+pub place_of : (cells : List CellFacts) (i : ℕ) (item : CellFacts) → i < length cells
+    → item ≡ slice_index_or cells i item → item.workspace.place ≡ slice_index_or (places_in cells) i 0
 place_of cells i item within here =
-    ap (λ (c : CellFacts). c.workspace.place) here ∙ sym (get_or-map (λ (c : CellFacts). c.workspace.place) cells i item 0 within)
+    ap (λ (c : CellFacts). c.workspace.place) here
+    ∙ sym (get_or-map (λ (c : CellFacts). c.workspace.place) cells i item 0 within)
 
 -- ---- How many
 
@@ -77,7 +93,11 @@ depths_push (d ∷ ds) c = let rest = depths_push ds c in omega (arith, rest)
 -- no cell is as deep
 pub below_depths : (cs : List CellFacts) → AllByRecursion (λ c. c.depth < depths_of cs) cs
 below_depths [] = tt
-below_depths (c ∷ cs) = (omega arith, all_weaker (λ d. d.depth < depths_of cs) (λ d. d.depth < max (suc c.depth) (depths_of cs)) (λ d less. omega (arith, less)) cs (below_depths cs))
+below_depths (c ∷ cs) = (
+  omega arith,
+  all_weaker (λ d. d.depth < depths_of cs) (λ d. d.depth < max (suc c.depth) (depths_of cs))
+      (λ d less. omega (arith, less)) cs (below_depths cs),
+)
 
 -- ---- One more
 
@@ -88,8 +108,10 @@ pub record IsPutDown (ranked : ℕ → ℕ) (first i depths : ℕ) (cells : List
   pub lasts : AllByRecursion (λ p. ranked p + 1 ≡ depths) (drop first (take i ps))
 
 -- The place at this index is the next of these, which stand by their ranks.
-module _ (related : Related) (ranked : ℕ → ℕ) (cells : List CellFacts) (ps : List ℕ) (first i depths q : ℕ) (is : RanksDepths related ranked ps) (same : places_in cells ≡ ps)
-    (q_is : slice_index_or ps i q ≡ q) (within : i < length cells) (first_within : first ≤ i) (put : IsPutDown ranked first i depths cells ps) where
+module _ (related : Related) (ranked : ℕ → ℕ) (cells : List CellFacts) (ps : List ℕ) (first i depths q : ℕ)
+    (is : RanksDepths related ranked ps) (same : places_in cells ≡ ps)
+    (q_is : slice_index_or ps i q ≡ q) (within : i < length cells) (first_within : first ≤ i)
+    (put : IsPutDown ranked first i depths cells ps) where
   long : length cells ≡ length ps
   long = sym (length-map cells (λ (c : CellFacts). c.workspace.place)) ∙ ap (λ (ns : List ℕ). length ns) same
 
@@ -97,7 +119,9 @@ module _ (related : Related) (ranked : ℕ → ℕ) (cells : List CellFacts) (ps
   before_long = length-take-le i ps (omega (arith, within, long))
 
   split : ps ≡ take i ps ++ q ∷ drop (i + 1) ps
-  split = sym (take-append-drop i ps) ∙ ap (λ (ns : List ℕ). take i ps ++ ns) (drop_more ps i q (omega (arith, within, long)) ∙ ap (λ (n : ℕ). n ∷ drop (i + 1) ps) q_is)
+  split = sym (take-append-drop i ps)
+      ∙ ap (λ (ns : List ℕ). take i ps ++ ns)
+      (drop_more ps i q (omega (arith, within, long)) ∙ ap (λ (n : ℕ). n ∷ drop (i + 1) ps) q_is)
 
   more : take (i + 1) ps ≡ take i ps ++ q ∷ []
   more = take_more ps i q (omega (arith, within, long)) ∙ ap (λ (n : ℕ). take i ps ++ n ∷ []) q_is
@@ -108,15 +132,22 @@ module _ (related : Related) (ranked : ℕ → ℕ) (cells : List CellFacts) (ps
   low : AllByRecursion (λ p. ranked p + 1 ≤ depths) (take i ps)
   low = subst (AllByRecursion (λ p. ranked p + 1 ≤ depths)) (sym parts)
       (all_append (λ p. ranked p + 1 ≤ depths) (take first (take i ps)) (drop first (take i ps))
-      (all_weaker (λ p. ranked p + 1 < depths) (λ p. ranked p + 1 ≤ depths) (λ p less. omega (arith, less)) (take first (take i ps)) put.firsts)
-      (all_weaker (λ p. ranked p + 1 ≡ depths) (λ p. ranked p + 1 ≤ depths) (λ p e. omega (arith, e)) (drop first (take i ps)) put.lasts))
+      (all_weaker (λ p. ranked p + 1 < depths) (λ p. ranked p + 1 ≤ depths) (λ p less. omega (arith, less))
+      (take first (take i ps)) put.firsts)
+      (all_weaker (λ p. ranked p + 1 ≡ depths) (λ p. ranked p + 1 ≤ depths) (λ p e. omega (arith, e))
+      (drop first (take i ps)) put.lasts))
 
-  rises_lasts : AllByRecursion (λ p. (r : ℕ) → is_listed (linked related.leaders r) p ≡ true → ranked p < ranked r) (drop first (take i ps))
+  rises_lasts : AllByRecursion (λ p. (r : ℕ) → is_listed (linked related.leaders r) p ≡ true → ranked p < ranked r)
+      (drop first (take i ps))
   rises_lasts =
-      let rises = all_parts (λ p. (r : ℕ) → is_listed (linked related.leaders r) p ≡ true → ranked p < ranked r) (take i ps) (q ∷ drop (i + 1) ps)
-      (subst (AllByRecursion (λ p. (r : ℕ) → is_listed (linked related.leaders r) p ≡ true → ranked p < ranked r)) split is.rises) in
-      (all_parts (λ p. (r : ℕ) → is_listed (linked related.leaders r) p ≡ true → ranked p < ranked r) (take first (take i ps)) (drop first (take i ps))
-      (subst (AllByRecursion (λ p. (r : ℕ) → is_listed (linked related.leaders r) p ≡ true → ranked p < ranked r)) parts rises.0)).1
+      let rises = all_parts (λ p. (r : ℕ) → is_listed (linked related.leaders r) p ≡ true → ranked p < ranked r)
+      (take i ps) (q ∷ drop (i + 1) ps)
+      (subst (AllByRecursion (λ p. (r : ℕ) → is_listed (linked related.leaders r) p ≡ true → ranked p < ranked r)) split
+      is.rises) in
+      (all_parts (λ p. (r : ℕ) → is_listed (linked related.leaders r) p ≡ true → ranked p < ranked r)
+      (take first (take i ps)) (drop first (take i ps))
+      (subst (AllByRecursion (λ p. (r : ℕ) → is_listed (linked related.leaders r) p ≡ true → ranked p < ranked r)) parts
+      rises.0)).1
 
   lasts_long : length (drop first (take i ps)) ≡ i - first
   lasts_long = length-drop first (take i ps) ∙ ap (λ (n : ℕ). n - first) before_long
@@ -124,7 +155,8 @@ module _ (related : Related) (ranked : ℕ → ℕ) (cells : List CellFacts) (ps
   -- as no controller of the last depth leads to it, it is of that depth;
   pub stays : first < i → is_led_by related (drop first (take i ps)) q ≡ false → ranked q + 1 ≡ depths
   stays some none =
-      same_if_not_led related ranked ps (take i ps) q (drop (i + 1) ps) is split depths (take first (take i ps)) (drop first (take i ps)) parts put.firsts put.lasts
+      same_if_not_led related ranked ps (take i ps) q (drop (i + 1) ps) is split depths (take first (take i ps))
+      (drop first (take i ps)) parts put.firsts put.lasts
       (omega (arith, some, lasts_long)) none
 
   -- as one does, or it is the first of all, it is the first of the next
@@ -134,7 +166,8 @@ module _ (related : Related) (ranked : ℕ → ℕ) (cells : List CellFacts) (ps
       elim (cases_lt 0 i) [
         | inl some ↦
             let least : depths ≤ ranked q =
-            deeper_if_led related ranked ps (take i ps) q (drop (i + 1) ps) is split depths (drop first (take i ps)) put.lasts rises_lasts (led some) in
+            deeper_if_led related ranked ps (take i ps) q (drop (i + 1) ps) is split depths (drop first (take i ps))
+            put.lasts rises_lasts (led some) in
             omega (arith, most, least)
         | inr no_more ↦ let nothing : depths ≡ 0 = none (omega (arith, no_more)) in omega (arith, most, nothing)
       ]
@@ -144,29 +177,40 @@ module _ (related : Related) (ranked : ℕ → ℕ) (cells : List CellFacts) (ps
     sofar : take (i + 1) (slice_set cells i next) ≡ take i cells ++ next ∷ []
     sofar = take_more_set cells i next within
 
-    put_more : next.depth ≡ ranked q → AllByRecursion (λ c. c.depth ≡ ranked c.workspace.place) (take (i + 1) (slice_set cells i next))
+    put_more : next.depth ≡ ranked q
+        → AllByRecursion (λ c. c.depth ≡ ranked c.workspace.place) (take (i + 1) (slice_set cells i next))
     put_more e = subst (AllByRecursion (λ c. c.depth ≡ ranked c.workspace.place)) (sym sofar)
         (all_push (λ c. c.depth ≡ ranked c.workspace.place) (take i cells) next put.put (e ∙ ap ranked (sym there)))
 
-    pub put_same : first < i → is_led_by related (drop first (take i ps)) q ≡ false → next.depth + 1 ≡ depths → IsPutDown ranked first (i + 1) depths (slice_set cells i next) ps
+    pub put_same : first < i → is_led_by related (drop first (take i ps)) q ≡ false → next.depth + 1 ≡ depths
+        → IsPutDown ranked first (i + 1) depths (slice_set cells i next) ps
     put_same some none e =
         let last : ranked q + 1 ≡ depths = stays some none in record {
           put = put_more (omega (arith, last, e));
-          firsts = subst (AllByRecursion (λ p. ranked p + 1 < depths)) (sym (ap (take first) more ∙ take-append-le first (take i ps) (q ∷ []) (omega (arith, first_within, before_long)))) put.firsts;
-          lasts = subst (AllByRecursion (λ p. ranked p + 1 ≡ depths)) (sym (ap (drop first) more ∙ drop-append-le first (take i ps) (q ∷ []) (omega (arith, first_within, before_long))))
+          firsts = subst (AllByRecursion (λ p. ranked p + 1 < depths))
+              (sym (ap (take first) more
+              ∙ take-append-le first (take i ps) (q ∷ []) (omega (arith, first_within, before_long)))) put.firsts;
+          lasts = subst (AllByRecursion (λ p. ranked p + 1 ≡ depths))
+              (sym (ap (drop first) more
+              ∙ drop-append-le first (take i ps) (q ∷ []) (omega (arith, first_within, before_long))))
               (all_push (λ p. ranked p + 1 ≡ depths) (drop first (take i ps)) q put.lasts last);
         }
 
-    pub put_first : (0 < i → is_led_by related (drop first (take i ps)) q ≡ true) → (i ≡ 0 → depths ≡ 0) → next.depth ≡ depths → IsPutDown ranked i (i + 1) (depths + 1) (slice_set cells i next) ps
+    pub put_first : (0 < i → is_led_by related (drop first (take i ps)) q ≡ true) → (i ≡ 0 → depths ≡ 0)
+        → next.depth ≡ depths → IsPutDown ranked i (i + 1) (depths + 1) (slice_set cells i next) ps
     put_first led none e =
         let last : ranked q ≡ depths = starts led none in
         let whole : take i (take (i + 1) ps) ≡ take i ps =
-        ap (take i) more ∙ ap (λ (k : ℕ). take k (take i ps ++ q ∷ [])) (sym before_long) ∙ take-append_seam (take i ps) (q ∷ []) in
+        ap (take i) more ∙ ap (λ (k : ℕ). take k (take i ps ++ q ∷ [])) (sym before_long)
+        ∙ take-append_seam (take i ps) (q ∷ []) in
         let rest : drop i (take (i + 1) ps) ≡ q ∷ [] =
-        ap (drop i) more ∙ ap (λ (k : ℕ). drop k (take i ps ++ q ∷ [])) (sym before_long) ∙ drop-append_seam (take i ps) (q ∷ []) in
+        ap (drop i) more ∙ ap (λ (k : ℕ). drop k (take i ps ++ q ∷ [])) (sym before_long)
+        ∙ drop-append_seam (take i ps) (q ∷ []) in
         record {
           put = put_more (omega (arith, last, e));
-          firsts = subst (AllByRecursion (λ p. ranked p + 1 < depths + 1)) (sym whole) (all_weaker (λ p. ranked p + 1 ≤ depths) (λ p. ranked p + 1 < depths + 1) (λ p less. omega (arith, less)) (take i ps) low);
+          firsts = subst (AllByRecursion (λ p. ranked p + 1 < depths + 1)) (sym whole)
+              (all_weaker (λ p. ranked p + 1 ≤ depths) (λ p. ranked p + 1 < depths + 1) (λ p less. omega (arith, less))
+              (take i ps) low);
           lasts = subst (AllByRecursion (λ p. ranked p + 1 ≡ depths + 1)) (sym rest) (omega (arith, last), tt);
         }
 
@@ -179,7 +223,8 @@ pub record IsSoFar (related : Related) (began cells : List CellFacts) (first i d
   pub none : i ≡ 0 → depths ≡ 0
   pub some : 0 < i → (first < i) × (0 < depths)
   pub count : depths ≡ depths_of (take i cells)
-  pub put : (ranked : ℕ → ℕ) → RanksDepths related ranked (places_in began) → IsPutDown ranked first i depths cells (places_in began)
+  pub put : (ranked : ℕ → ℕ) → RanksDepths related ranked (places_in began)
+      → IsPutDown ranked first i depths cells (places_in began)
 
 pub none_so_far : (related : Related) (cells : List CellFacts) → IsSoFar related cells cells 0 0 0
 none_so_far related cells = record {
@@ -193,7 +238,8 @@ none_so_far related cells = record {
 
 -- whether the next is the first of its depth
 abbrev pub starts_at : Related → List CellFacts → ℕ → ℕ → Bool
-starts_at related cells first i = i == 0 || is_led_by related (drop first (take i (places_in cells))) (slice_index_or (places_in cells) i 0)
+starts_at related cells first i =
+    i == 0 || is_led_by related (drop first (take i (places_in cells))) (slice_index_or (places_in cells) i 0)
 
 not_zero : (i : ℕ) → 0 < i → (i == 0) ≡ false
 not_zero i some = grind (arith, nat_tests)
@@ -205,21 +251,28 @@ start_not : (i : ℕ) (b led : Bool) → b ≡ (i == 0 || led) → b ≡ false �
 start_not i b led is stays =
     elim (cases_lt 0 i) [
       | inl some ↦ (some, sym (ap (λ (x : Bool). x || led) (not_zero i some)) ∙ sym is ∙ stays)
-      | inr none ↦ let first : i ≡ 0 = omega (arith, none) in absurd (true≢false (sym (is ∙ ap (λ (x : Bool). x || led) (eq-eqb i 0 first)) ∙ stays))
+      | inr none ↦ let first : i ≡ 0 =
+          omega (arith, none) in absurd (true≢false (sym (is ∙ ap (λ (x : Bool). x || led) (eq-eqb i 0 first)) ∙ stays))
     ]
 
 -- a cell that is not the first of all goes by the cells of the depth before
-pub starts_else : (related : Related) (cells : List CellFacts) (first i : ℕ) (item : CellFacts) (b : Bool) → first ≤ i → i < length cells → (i ≡ 0 → ⊥) → item ≡ slice_index_or cells i item
+pub starts_else : (related : Related) (cells : List CellFacts) (first i : ℕ) (item : CellFacts) (b : Bool) → first ≤ i
+    → i < length cells → (i ≡ 0 → ⊥) → item ≡ slice_index_or cells i item
     → b ≡ list_any (λ d. precedes_in related d item) (slice_range cells first i) → b ≡ starts_at related cells first i
 starts_else related cells first i item b within inside later here follows =
     let some : 0 < i = elim (cases_lt 0 i) [
       | inl above ↦ above
       | inr none ↦ absurd (later (omega (arith, none)))
     ] in
-    follows ∙ led_range related cells first i item within ∙ ap (is_led_by related (drop first (take i (places_in cells)))) (place_of cells i item inside here)
-    ∙ sym (ap (λ (x : Bool). x || is_led_by related (drop first (take i (places_in cells))) (slice_index_or (places_in cells) i 0)) (not_zero i some))
+    follows ∙ led_range related cells first i item within
+    ∙ ap (is_led_by related (drop first (take i (places_in cells)))) (place_of cells i item inside here)
+    ∙ sym (ap (λ (x : Bool). x
+    || is_led_by related (drop first (take i (places_in cells))) (slice_index_or (places_in cells) i 0))
+    (not_zero i some))
 
-module _ (related : Related) (began cells : List CellFacts) (first i depths : ℕ) (so_far : IsSoFar related began cells first i depths) (within : i < length cells) (b : Bool) (is : b ≡ starts_at related cells first i) where
+module _ (related : Related) (began cells : List CellFacts) (first i depths : ℕ)
+    (so_far : IsSoFar related began cells first i depths) (within : i < length cells) (b : Bool)
+    (is : b ≡ starts_at related cells first i) where
   abbrev ps : List ℕ
   ps = places_in began
 
@@ -230,44 +283,63 @@ module _ (related : Related) (began cells : List CellFacts) (first i depths : �
   q = slice_index_or ps i 0
 
   q_itself : slice_index_or ps i q ≡ q
-  q_itself = get_or_default ps i q 0 (omega (arith, within, length-map cells (λ (c : CellFacts). c.workspace.place), ap (λ (ns : List ℕ). length ns) same_places))
+  q_itself = get_or_default ps i q 0
+      (omega (
+        arith,
+        within,
+        length-map cells (λ (c : CellFacts). c.workspace.place),
+        ap (λ (ns : List ℕ). length ns) same_places,
+      ))
 
   here : b ≡ (i == 0 || is_led_by related (drop first (take i ps)) q)
-  here = is ∙ ap (λ (ns : List ℕ). i == 0 || is_led_by related (drop first (take i ns)) (slice_index_or ns i 0)) same_places
+  here = is ∙ ap (λ (ns : List ℕ). i == 0 || is_led_by related (drop first (take i ns)) (slice_index_or ns i 0))
+      same_places
 
   -- there are fewer depths than can be counted
   pub depths_fit : b ≡ true → (ranks : (ranked : ℕ → ℕ) × RanksDepths related ranked ps) → depths + 1 < 2 ^ 32
   depths_fit begins_here ranks =
       let last : ranks.0 q ≡ depths =
-      starts related ranks.0 cells ps first i depths q ranks.1 same_places q_itself within so_far.first_within (so_far.put ranks.0 ranks.1)
+      starts related ranks.0 cells ps first i depths q ranks.1 same_places q_itself within so_far.first_within
+      (so_far.put ranks.0 ranks.1)
       (start_led i b (is_led_by related (drop first (take i ps)) q) here begins_here) so_far.none in
       omega (arith, last, ranks.1.small q)
 
   -- and with one cell more it goes on so
-  module _ (item next : CellFacts) (first' depths' : ℕ) (is_item : item ≡ slice_index_or cells i item) (is_next : next ≡ record item { depth = depths' - 1 }) where
+  module _ (item next : CellFacts) (first' depths' : ℕ) (is_item : item ≡ slice_index_or cells i item)
+      (is_next : next ≡ record item { depth = depths' - 1 }) where
     next_depth : next.depth ≡ depths' - 1
     next_depth = ap (λ (c : CellFacts). c.depth) is_next
 
     next_place : next.workspace.place ≡ q
-    next_place = ap (λ (c : CellFacts). c.workspace.place) is_next ∙ place_of cells i item within is_item ∙ ap (λ (ns : List ℕ). slice_index_or ns i 0) same_places
+    next_place =
+        ap (λ (c : CellFacts). c.workspace.place) is_next ∙ place_of cells i item within is_item
+        ∙ ap (λ (ns : List ℕ). slice_index_or ns i 0) same_places
 
     next_same : AreDeepened began (slice_set cells i next)
-    next_same = subst (λ (c : CellFacts). AreDeepened began (slice_set cells i c)) (sym (is_next ∙ ap (λ (c : CellFacts). record c { depth = depths' - 1 }) is_item))
+    next_same = subst (λ (c : CellFacts). AreDeepened began (slice_set cells i c))
+        (sym (is_next ∙ ap (λ (c : CellFacts). record c { depth = depths' - 1 }) is_item))
         (deepened_set began cells i (depths' - 1) item so_far.same within)
 
     next_count : depths_of (take (i + 1) (slice_set cells i next)) ≡ max depths (suc (depths' - 1))
-    next_count = ap depths_of (take_more_set cells i next within) ∙ depths_push (take i cells) next ∙ ap₂ (λ (m n : ℕ). max m (suc n)) (sym so_far.count) next_depth
+    next_count =
+        ap depths_of (take_more_set cells i next within) ∙ depths_push (take i cells) next
+        ∙ ap₂ (λ (m n : ℕ). max m (suc n)) (sym so_far.count) next_depth
 
-    pub goes_on : ((b ≡ true) × ((first' ≡ i) × (depths' ≡ depths + 1))) ⊎ ((b ≡ false) × ((first' ≡ first) × (depths' ≡ depths))) → IsSoFar related began (slice_set cells i next) first' (i + 1) depths'
-    goes_on (inl new) = subst (λ (n : ℕ). IsSoFar related began (slice_set cells i next) n (i + 1) depths') (sym new.1.0)
+    pub goes_on : ((b ≡ true) × ((first' ≡ i) × (depths' ≡ depths + 1)))
+        ⊎ ((b ≡ false) × ((first' ≡ first) × (depths' ≡ depths)))
+        → IsSoFar related began (slice_set cells i next) first' (i + 1) depths'
+    goes_on (inl new) =
+        subst (λ (n : ℕ). IsSoFar related began (slice_set cells i next) n (i + 1) depths') (sym new.1.0)
         (subst (λ (n : ℕ). IsSoFar related began (slice_set cells i next) i (i + 1) n) (sym new.1.1) (record {
           same = next_same;
           first_within = omega arith;
           none = λ e. absurd (omega (arith, e));
           some = λ below. (omega arith, omega arith);
           count = omega (arith, next_count, new.1.1);
-          put = λ ranked ranks. put_first related ranked cells ps first i depths q ranks same_places q_itself within so_far.first_within (so_far.put ranked ranks) next next_place
-              (start_led i b (is_led_by related (drop first (take i ps)) q) here new.0) so_far.none (omega (arith, next_depth, new.1.1));
+          put = λ ranked ranks. put_first related ranked cells ps first i depths q ranks same_places q_itself within
+              so_far.first_within (so_far.put ranked ranks) next next_place
+              (start_led i b (is_led_by related (drop first (take i ps)) q) here new.0) so_far.none
+              (omega (arith, next_depth, new.1.1));
         }))
     goes_on (inr old) =
         let none = start_not i b (is_led_by related (drop first (take i ps)) q) here old.0 in
@@ -279,12 +351,15 @@ module _ (related : Related) (began cells : List CellFacts) (first i depths : �
           none = λ e. absurd (omega (arith, e));
           some = λ below. (omega (arith, so_far.first_within), before.1);
           count = omega (arith, next_count, old.1.1, before.1);
-          put = λ ranked ranks. put_same related ranked cells ps first i depths q ranks same_places q_itself within so_far.first_within (so_far.put ranked ranks) next next_place
+          put = λ ranked ranks. put_same related ranked cells ps first i depths q ranks same_places q_itself within
+              so_far.first_within (so_far.put ranked ranks) next next_place
               before.0 none.1 (omega (arith, next_depth, old.1.1, before.1));
         }))
 
   -- some depth has begun by then
-  pub some_depth : (first' depths' : ℕ) → ((b ≡ true) × ((first' ≡ i) × (depths' ≡ depths + 1))) ⊎ ((b ≡ false) × ((first' ≡ first) × (depths' ≡ depths))) → 1 ≤ depths'
+  pub some_depth : (first' depths' : ℕ)
+      → ((b ≡ true) × ((first' ≡ i) × (depths' ≡ depths + 1))) ⊎ ((b ≡ false) × ((first' ≡ first) × (depths' ≡ depths)))
+      → 1 ≤ depths'
   some_depth first' depths' (inl new) = omega (arith, new.1.1)
   some_depth first' depths' (inr old) =
       let none = start_not i b (is_led_by related (drop first (take i ps)) q) here old.0 in
@@ -298,9 +373,11 @@ take_past (suc i) [] past = refl
 take_past {A} (suc i) (x ∷ xs) past = ap (λ (ys : List A). x ∷ ys) (take_past i xs (omega (arith, past)))
 
 -- at the end all have them
-pub put_down : (related : Related) (began cells : List CellFacts) (first i depths : ℕ) → IsSoFar related began cells first i depths → length cells ≤ i → PutsDepths related began cells depths
+pub put_down : (related : Related) (began cells : List CellFacts) (first i depths : ℕ)
+    → IsSoFar related began cells first i depths → length cells ≤ i → PutsDepths related began cells depths
 put_down related began cells first i depths so_far past = record {
-  ranked = λ ranked ranks. subst (AllByRecursion (λ c. c.depth ≡ ranked c.workspace.place)) (take_past i cells past) (so_far.put ranked ranks).put;
+  ranked = λ ranked ranks. subst (AllByRecursion (λ c. c.depth ≡ ranked c.workspace.place)) (take_past i cells past)
+      (so_far.put ranked ranks).put;
   same = so_far.same;
   count = so_far.count ∙ ap depths_of (take_past i cells past);
 }
@@ -308,52 +385,70 @@ put_down related began cells first i depths so_far past = record {
 -- ---- All
 
 -- what stands by its ranks is layered
-pub layered : (related : Related) (ranked : ℕ → ℕ) (cs : List CellFacts) → AllByRecursion (λ c. c.depth ≡ ranked c.workspace.place) cs → StandBy ranked (places_in cs)
-    → AllByRecursion (λ p. (r : ℕ) → is_listed (linked related.leaders r) p ≡ true → ranked p < ranked r) (places_in cs) → IsLayered related cs
+pub layered : (related : Related) (ranked : ℕ → ℕ) (cs : List CellFacts)
+    → AllByRecursion (λ c. c.depth ≡ ranked c.workspace.place) cs → StandBy ranked (places_in cs)
+    → AllByRecursion (λ p. (r : ℕ) → is_listed (linked related.leaders r) p ≡ true → ranked p < ranked r) (places_in cs)
+    → IsLayered related cs
 layered related ranked [] at stand rises = tt
 layered related ranked (c ∷ cs) at stand rises = (each cs at.1 stand.0, layered related ranked cs at.1 stand.1 rises.1)
   where
-    each : (ds : List CellFacts) → AllByRecursion (λ d. d.depth ≡ ranked d.workspace.place) ds → AllByRecursion (λ p. ranked c.workspace.place ≤ ranked p) (places_in ds)
+    each : (ds : List CellFacts) → AllByRecursion (λ d. d.depth ≡ ranked d.workspace.place) ds
+        → AllByRecursion (λ p. ranked c.workspace.place ≤ ranked p) (places_in ds)
         → AllByRecursion (λ d. (c.depth ≤ d.depth) × (c.depth ≡ d.depth → precedes_in related c d ≡ false)) ds
     each [] put more = tt
     each (d ∷ ds) put more = (
       (
         omega (arith, at.0, put.0, more.0),
-        (λ same. false_from_ne_true (precedes_in related c d) (λ leads. let less = rises.0 d.workspace.place leads in absurd (omega (arith, less, at.0, put.0, same)))),
+        (λ same. false_from_ne_true (precedes_in related c d)
+            (λ leads. let less = rises.0 d.workspace.place leads in absurd (omega (arith, less, at.0, put.0, same)))),
       ),
       each ds put.1 more.1,
     )
 
 -- ---- Layers
 
-pub layered_parts : (related : Related) (cs ds : List CellFacts) → IsLayered related (cs ++ ds) → IsLayered related cs × IsLayered related ds
+pub layered_parts : (related : Related) (cs ds : List CellFacts) → IsLayered related (cs ++ ds)
+    → IsLayered related cs × IsLayered related ds
 layered_parts related [] ds is = (tt, is)
 layered_parts related (c ∷ cs) ds is =
-    let rest = layered_parts related cs ds is.1 in
-    (((all_parts (λ d. (c.depth ≤ d.depth) × (c.depth ≡ d.depth → precedes_in related c d ≡ false)) cs ds is.0).0, rest.0), rest.1)
+    let rest = layered_parts related cs ds is.1 in (
+      (
+        (all_parts (λ d. (c.depth ≤ d.depth) × (c.depth ≡ d.depth → precedes_in related c d ≡ false)) cs ds is.0).0,
+        rest.0,
+      ),
+      rest.1,
+    )
 
 -- of those of one depth none precedes a later one
-pub none_in_layer : (related : Related) (n : ℕ) (cs : List CellFacts) → IsLayered related cs → AllByRecursion (λ c. c.depth ≡ n) cs → NonePrecedes related cs
+pub none_in_layer : (related : Related) (n : ℕ) (cs : List CellFacts) → IsLayered related cs
+    → AllByRecursion (λ c. c.depth ≡ n) cs → NonePrecedes related cs
 none_in_layer related n [] is at = tt
 none_in_layer related n (c ∷ cs) is at = (each cs is.0 at.1, none_in_layer related n cs is.1 at.1)
   where
-    each : (ds : List CellFacts) → AllByRecursion (λ d. (c.depth ≤ d.depth) × (c.depth ≡ d.depth → precedes_in related c d ≡ false)) ds → AllByRecursion (λ d. d.depth ≡ n) ds
+    each : (ds : List CellFacts)
+        → AllByRecursion (λ d. (c.depth ≤ d.depth) × (c.depth ≡ d.depth → precedes_in related c d ≡ false)) ds
+        → AllByRecursion (λ d. d.depth ≡ n) ds
         → AllByRecursion (λ d. precedes_in related c d ≡ false) ds
     each [] one same = tt
     each (d ∷ ds) one same = (one.0.1 (omega (arith, at.0, same.0)), each ds one.1 same.1)
 
 -- those behind one that stands deeper stand deeper
-pub deeper_from : (related : Related) (n : ℕ) (cs : List CellFacts) → IsLayered related cs → AllByRecursion (λ c. n ≤ c.depth) cs → StartsElsewhere n cs → AllByRecursion (λ c. n < c.depth) cs
+pub deeper_from : (related : Related) (n : ℕ) (cs : List CellFacts) → IsLayered related cs
+    → AllByRecursion (λ c. n ≤ c.depth) cs → StartsElsewhere n cs → AllByRecursion (λ c. n < c.depth) cs
 deeper_from related n [] is low elsewhere = tt
 deeper_from related n (c ∷ cs) is low elsewhere =
     let less : n < c.depth = elim (cases_lt n c.depth) [
       | inl below ↦ below
       | inr above ↦ absurd (elsewhere (omega (arith, above, low.0)))
-    ] in
-    (less, all_weaker (λ d. (c.depth ≤ d.depth) × (c.depth ≡ d.depth → precedes_in related c d ≡ false)) (λ d. n < d.depth) (λ d each. omega (arith, less, each.0)) cs is.0)
+    ] in (
+      less,
+      all_weaker (λ d. (c.depth ≤ d.depth) × (c.depth ≡ d.depth → precedes_in related c d ≡ false))
+          (λ d. n < d.depth) (λ d each. omega (arith, less, each.0)) cs is.0,
+    )
 
 -- where all stand at the last depth or above, none is left
-pub none_left : (n : ℕ) (cs ds : List CellFacts) → n ≡ depths_of (cs ++ ds) → AllByRecursion (λ c. n ≤ c.depth) ds → ds ≡ []
+pub none_left : (n : ℕ) (cs ds : List CellFacts) → n ≡ depths_of (cs ++ ds) → AllByRecursion (λ c. n ≤ c.depth) ds
+    → ds ≡ []
 none_left n cs [] is low = refl
 none_left n cs (d ∷ ds) is low =
     let below = (all_parts (λ c. c.depth < depths_of (cs ++ d ∷ ds)) cs (d ∷ ds) (below_depths (cs ++ d ∷ ds))).1.0 in

@@ -1,8 +1,11 @@
 -- The way of a flight that was started: what it keeps from call to call.
-use Rattle.std.proofs.Common.{◌≡◌, ℕ, zero, suc, ◌+◌, ◌<◌, ◌≤◌, ◌^◌, true, false, List, [], ◌∷◌, ◌++◌, length, map, take, drop, Option, Some, None, refl, sym, ap, ap₂, subst, ◌∙◌, arith, append_assoc, true≢false}
+use Rattle.std.proofs.Common.{◌≡◌, ℕ, zero, suc, ◌+◌, ◌<◌, ◌≤◌, ◌^◌, true, false, List, []}
+use Rattle.std.proofs.Common.{◌∷◌, ◌++◌, length, map, take, drop, Option, Some, None, refl}
+use Rattle.std.proofs.Common.{sym, ap, ap₂, subst, ◌∙◌, arith, append_assoc, true≢false}
 use Rattle.std.specs.Prelude.{vec_len, vec_capacity, is_some, if◌then◌else◌, IsSomeAnd}
 use Rattle.std.specs.List.{AllByRecursion}
-use Rattle.std.proofs.lemmas.List.{append-nil, drop-map, drop_all, length-append, length-drop, length-map, length-take-le, map-append, take-append-drop, take-map}
+use Rattle.std.proofs.lemmas.List.{append-nil, drop-map, drop_all, length-append, length-drop}
+use Rattle.std.proofs.lemmas.List.{length-map, length-take-le, map-append, take-append-drop, take-map}
 use Rattle.std.proofs.Math.Seq.{drop-append_seam, take-add, take-append_seam}
 use Rattle.cm_storage.specs.declared.record.FailedPart.{FailedPart}
 use Rattle.cm_storage.specs.declared.record_room.RecordRoom.{RecordRoom}
@@ -13,7 +16,9 @@ use Rattle.rt_flight.specs.Calls.Cells.{CanPutAll, CanTurn, LeavesPut}
 use Rattle.rt_flight.specs.Calls.Depths.{StartsElsewhere}
 use Rattle.rt_flight.specs.Calls.Parts.{waiting_of, with_waiting, HaveMadeSteps}
 use Rattle.rt_flight.specs.Calls.Turns.{Scatters, HaveAllTurned}
-use Rattle.rt_flight.specs.Cells.{CellFacts, Flying, Post, all_flown, all_numbers, all_outs, all_put, cell_put, cell_read, cell_run, cells_after, flying, post_of, CanFly, CanMakeStep, CanStep, NonePrecedes, TellsApart}
+use Rattle.rt_flight.specs.Cells.{CellFacts, Flying, Post, all_flown, all_numbers, all_outs}
+use Rattle.rt_flight.specs.Cells.{all_put, cell_put, cell_read, cell_run, cells_after, flying}
+use Rattle.rt_flight.specs.Cells.{post_of, CanFly, CanMakeStep, CanStep, NonePrecedes, TellsApart}
 use Rattle.rt_flight.specs.Depths.{depths_of, IsLayered}
 use Rattle.rt_flight.specs.Progress.{Progress, failed_in_room, flying_in, round_in}
 use Rattle.rt_flight.specs.UnderWay.{HasBegun, HasRoomFor, HasTurned, IsTurning, TellsBut}
@@ -23,14 +28,17 @@ use Rattle.rt_flight.proofs.ApartLemmas.{tells_apart}
 use Rattle.rt_flight.proofs.LayerLemmas.{all_apart, reads_itself, together, IsTogether}
 use Rattle.rt_flight.proofs.PutDownLemmas.{deeper_from, layered_parts, none_in_layer, none_left}
 use Rattle.rt_flight.proofs.RankLemmas.{all_weaker}
-use Rattle.rt_flight.proofs.TurnLemmas.{all_by_posts, all_parts, cells_append, connected_by, count_by, each_of, few_outs_by, few_states_by, flown_append, numbers_append, numbers_by, outs_append, outs_by, put_posts, read_can_steps, read_posts}
+use Rattle.rt_flight.proofs.TurnLemmas.{all_by_posts, all_parts, cells_append, connected_by, count_by, each_of}
+use Rattle.rt_flight.proofs.TurnLemmas.{few_outs_by, few_states_by, flown_append, numbers_append, numbers_by}
+use Rattle.rt_flight.proofs.TurnLemmas.{outs_append, outs_by, put_posts, read_can_steps, read_posts}
 
 -- ---- Lists
 
 drop_more_parts : {A : Type 0} (n m : ℕ) (xs : List A) → drop (n + m) xs ≡ drop m (drop n xs)
 drop_more_parts zero m xs = let on : zero + m ≡ m = omega arith in ap (λ k. drop k xs) on
 drop_more_parts (suc n) m [] = drop_all (suc n + m) [] (omega arith) ∙ sym (drop_all m [] (omega arith))
-drop_more_parts (suc n) m (x ∷ xs) = let on : suc n + m ≡ suc (n + m) = omega arith in ap (λ k. drop k (x ∷ xs)) on ∙ drop_more_parts n m xs
+drop_more_parts (suc n) m (x ∷ xs) =
+    let on : suc n + m ≡ suc (n + m) = omega arith in ap (λ k. drop k (x ∷ xs)) on ∙ drop_more_parts n m xs
 
 -- the front and the rest of two lists that are put together
 front_is : {A : Type 0} (n : ℕ) (xs ys : List A) → length xs ≡ n → take n (xs ++ ys) ≡ xs
@@ -46,17 +54,20 @@ no_less_than_none (c ∷ cs) = (omega arith, no_less_than_none cs)
 -- ---- Rooms
 
 -- where both are there, what is known of both
-pub some_of_both : (o o' : Option RecordRoom) (P : RecordRoom → Type 0) (T : RecordRoom → RecordRoom → Type 0) → IsSomeAnd o P → IsSomeAnd o (λ r. IsSomeAnd o' (T r))
+pub some_of_both : (o o' : Option RecordRoom) (P : RecordRoom → Type 0) (T : RecordRoom → RecordRoom → Type 0)
+    → IsSomeAnd o P → IsSomeAnd o (λ r. IsSomeAnd o' (T r))
     → (r : RecordRoom) × ((r' : RecordRoom) × ((o ≡ Some r) × ((o' ≡ Some r') × (P r × T r r'))))
 some_of_both None o' P T known both = absurd known
 some_of_both (Some r) None P T known both = absurd both
 some_of_both (Some r) (Some r') P T known both = (r, (r', (refl, (refl, (known, both)))))
 
-some_itself : (o : Option RecordRoom) (P : RecordRoom → Type 0) → IsSomeAnd o P → IsSomeAnd o (λ r. IsSomeAnd o (TellsBut r))
+some_itself : (o : Option RecordRoom) (P : RecordRoom → Type 0) → IsSomeAnd o P
+    → IsSomeAnd o (λ r. IsSomeAnd o (TellsBut r))
 some_itself None P known = absurd known
 some_itself (Some r) P known = refl
 
-pub some_mapped : (o : Option RecordRoom) (P Q : RecordRoom → Type 0) → ((r : RecordRoom) → P r → Q r) → IsSomeAnd o P → IsSomeAnd o Q
+pub some_mapped : (o : Option RecordRoom) (P Q : RecordRoom → Type 0) → ((r : RecordRoom) → P r → Q r) → IsSomeAnd o P
+    → IsSomeAnd o Q
 some_mapped None P Q over known = absurd known
 some_mapped (Some r) P Q over known = over r known
 
@@ -68,8 +79,20 @@ at_some o r P is known = subst (λ (o : Option RecordRoom). IsSomeAnd o P) is kn
 
 -- ---- At first
 
-pub at_first : (number : ℕ) (cells : List CellFacts) (k : CycleContext) (depths : ℕ) → HasBegun number cells k → depths ≡ depths_of cells → vec_len k.erred ≡ length k.erred.items
-    → IsTurning number cells k (record { depths = depths; scattered = 0; gathered = false; turned = 0; waiting = 0; begun = cells; read = k; left = cells })
+pub at_first : (number : ℕ) (cells : List CellFacts) (k : CycleContext) (depths : ℕ) → HasBegun number cells k
+    → depths ≡ depths_of cells → vec_len k.erred ≡ length k.erred.items
+    → IsTurning number cells k
+    (record {
+      depths = depths;
+      scattered = 0;
+      gathered = false;
+      turned = 0;
+      waiting = 0;
+      begun = cells;
+      read = k;
+      left =
+          cells;
+    })
 at_first number cells k depths begun count erred_len = record {
   begun = begun;
   depths = count;
@@ -77,7 +100,9 @@ at_first number cells k depths begun count erred_len = record {
     context = refl;
     room = some_itself k.room (HasRoomFor number cells k) begun.room;
     turned = record { cells = refl; flying = refl; posts = refl };
-    can = some_mapped k.room (HasRoomFor number cells k) (λ r. CanTurn (round_in number k) (length k.robot.hardware.loans) cells r.ran (vec_len k.erred) (vec_capacity k.erred))
+    can = some_mapped k.room (HasRoomFor number cells k)
+        (λ r. CanTurn (round_in number k) (length k.robot.hardware.loans) cells r.ran (vec_len k.erred)
+        (vec_capacity k.erred))
         (λ r has. record {
           timely = begun.timely;
           each = begun.each;
@@ -99,29 +124,54 @@ at_first number cells k depths begun count erred_len = record {
 
 -- ---- The round
 
-module _ (number : ℕ) (read k : CycleContext) (first later cells begun : List CellFacts) (has : HasBegun number begun read) (is : HasTurned number read first later cells k) where
-  rooms : (r : RecordRoom) × ((r' : RecordRoom) × ((read.room ≡ Some r) × ((k.room ≡ Some r') × (HasRoomFor number begun read r × TellsBut r r'))))
+module _ (number : ℕ) (read k : CycleContext) (first later cells begun : List CellFacts)
+    (has : HasBegun number begun read) (is : HasTurned number read first later cells k) where
+  rooms : (r : RecordRoom)
+      × ((r' : RecordRoom)
+      × ((read.room ≡ Some r) × ((k.room ≡ Some r') × (HasRoomFor number begun read r × TellsBut r r'))))
   rooms = some_of_both read.room k.room (HasRoomFor number begun read) TellsBut has.room is.room
 
   failed_same : failed_in_room k.room ≡ failed_in_room read.room
   failed_same =
-      ap failed_in_room rooms.1.1.1.0 ∙ ap (λ (r : RecordRoom). r.failed.items) rooms.1.1.1.1.1 ∙ sym (ap failed_in_room rooms.1.1.0)
+      ap failed_in_room rooms.1.1.1.0 ∙ ap (λ (r : RecordRoom). r.failed.items) rooms.1.1.1.1.1
+      ∙ sym (ap failed_in_room rooms.1.1.0)
 
   -- the round is the same as after the reads
   pub same_round : round_in number k ≡ round_in number read
   same_round =
-      ap (λ (parts : List FailedPart). record { number = number; period_us = k.robot.period_us; placed = k.robot.places; related = k.robot.relations; failed = parts }) failed_same
-      ∙ ap (λ (x : CycleContext). record { number = number; period_us = x.robot.period_us; placed = x.robot.places; related = x.robot.relations; failed = failed_in_room read.room }) is.context
+      ap (λ (parts : List FailedPart). record {
+        number = number;
+        period_us = k.robot.period_us;
+        placed = k.robot.places;
+        related = k.robot.relations;
+        failed =
+            parts;
+      }) failed_same
+      ∙ ap (λ (x : CycleContext). record {
+        number = number;
+        period_us = x.robot.period_us;
+        placed = x.robot.places;
+        related = x.robot.relations;
+        failed =
+            failed_in_room read.room;
+      }) is.context
 
   pub room_there : is_some k.room ≡ true
   room_there = ap (λ (o : Option RecordRoom). is_some o) rooms.1.1.1.0
 
   -- and the cells that are left can have their turns
-  pub can_turn : (r : RecordRoom) → k.room ≡ Some r → CanTurn (round_in number read) (length k.robot.hardware.loans) later r.ran (vec_len k.erred) (vec_capacity k.erred)
+  pub can_turn : (r : RecordRoom) → k.room ≡ Some r
+      → CanTurn (round_in number read) (length k.robot.hardware.loans) later r.ran (vec_len k.erred)
+      (vec_capacity k.erred)
   can_turn r there =
-      at_some k.room r (λ x. CanTurn (round_in number read) (length k.robot.hardware.loans) later x.ran (vec_len k.erred) (vec_capacity k.erred)) there is.can
+      at_some k.room r
+      (λ x. CanTurn (round_in number read) (length k.robot.hardware.loans) later x.ran (vec_len k.erred)
+      (vec_capacity k.erred)) there is.can
 
-  pub can_turn_somehow : (r : RecordRoom) × ((k.room ≡ Some r) × CanTurn (round_in number read) (length k.robot.hardware.loans) later r.ran (vec_len k.erred) (vec_capacity k.erred))
+  pub can_turn_somehow : (r : RecordRoom)
+      × ((k.room ≡ Some r)
+      × CanTurn (round_in number read) (length k.robot.hardware.loans) later r.ran (vec_len k.erred)
+      (vec_capacity k.erred))
   can_turn_somehow = (rooms.1.0, (rooms.1.1.1.0, can_turn rooms.1.0 rooms.1.1.1.0))
 
 -- ---- A flight under way
@@ -144,13 +194,18 @@ module _ (number : ℕ) (cells : List CellFacts) (k : CycleContext) (p : Progres
   has_read = map (cell_read a k.robot.hardware.loans) layer
 
   pub round_now : round_in number k ≡ a
-  round_now = same_round number p.read k (take p.turned p.begun) left_over (take p.turned p.left) p.begun is.begun is.turned
+  round_now = same_round number p.read k (take p.turned p.begun) left_over (take p.turned p.left) p.begun is.begun
+      is.turned
 
   pub room_now : is_some k.room ≡ true
-  room_now = room_there number p.read k (take p.turned p.begun) left_over (take p.turned p.left) p.begun is.begun is.turned
+  room_now = room_there number p.read k (take p.turned p.begun) left_over (take p.turned p.left) p.begun is.begun
+      is.turned
 
-  can : (r : RecordRoom) × ((k.room ≡ Some r) × CanTurn a (length k.robot.hardware.loans) left_over r.ran (vec_len k.erred) (vec_capacity k.erred))
-  can = can_turn_somehow number p.read k (take p.turned p.begun) left_over (take p.turned p.left) p.begun is.begun is.turned
+  can : (r : RecordRoom)
+      × ((k.room ≡ Some r)
+      × CanTurn a (length k.robot.hardware.loans) left_over r.ran (vec_len k.erred) (vec_capacity k.erred))
+  can = can_turn_somehow number p.read k (take p.turned p.begun) left_over (take p.turned p.left) p.begun is.begun
+      is.turned
 
   front_long : length (take p.turned p.left) ≡ p.turned
   front_long = length-take-le p.turned p.left (omega (arith, is.within, is.as_many))
@@ -165,9 +220,11 @@ module _ (number : ℕ) (cells : List CellFacts) (k : CycleContext) (p : Progres
   pub each_left : AllByRecursion (CanFly a.placed a.related a.period_us (length k.robot.hardware.loans)) left_over
   each_left = can.1.1.each
 
-  each_parts : AllByRecursion (CanFly a.placed a.related a.period_us (length k.robot.hardware.loans)) layer × AllByRecursion (CanFly a.placed a.related a.period_us (length k.robot.hardware.loans)) others
+  each_parts : AllByRecursion (CanFly a.placed a.related a.period_us (length k.robot.hardware.loans)) layer
+      × AllByRecursion (CanFly a.placed a.related a.period_us (length k.robot.hardware.loans)) others
   each_parts = all_parts (CanFly a.placed a.related a.period_us (length k.robot.hardware.loans)) layer others
-      (subst (AllByRecursion (CanFly a.placed a.related a.period_us (length k.robot.hardware.loans))) (sym (take-append-drop p.waiting left_over)) each_left)
+      (subst (AllByRecursion (CanFly a.placed a.related a.period_us (length k.robot.hardware.loans)))
+      (sym (take-append-drop p.waiting left_over)) each_left)
 
   waiting_left : waiting_of p p.left ≡ has_read
   waiting_left = ap (take p.waiting) is.later ∙ front_is p.waiting has_read others read_long
@@ -178,12 +235,16 @@ module _ (number : ℕ) (cells : List CellFacts) (k : CycleContext) (p : Progres
   pub stand_as_begun : p.gathered ≡ false → drop p.turned cells ≡ left_over
   stand_as_begun none =
       let settled = is.settled none in
-      ap (drop p.turned) settled.1 ∙ is.later ∙ ap (λ (m : ℕ). map (cell_read a k.robot.hardware.loans) (take m left_over) ++ drop m left_over) settled.0
+      ap (drop p.turned) settled.1 ∙ is.later
+      ∙ ap (λ (m : ℕ). map (cell_read a k.robot.hardware.loans) (take m left_over) ++ drop m left_over) settled.0
 
-  pub depths_left : p.gathered ≡ false → IsLayered p.read.robot.relations (drop p.turned cells) × AllByRecursion (λ c. p.scattered ≤ c.depth) (drop p.turned cells)
+  pub depths_left : p.gathered ≡ false
+      → IsLayered p.read.robot.relations (drop p.turned cells)
+      × AllByRecursion (λ c. p.scattered ≤ c.depth) (drop p.turned cells)
   depths_left none = (
     subst (IsLayered p.read.robot.relations) (sym (stand_as_begun none))
-        (layered_parts p.read.robot.relations (take p.turned p.begun) left_over (subst (IsLayered p.read.robot.relations) (sym (take-append-drop p.turned p.begun)) is.begun.layered)).1,
+        (layered_parts p.read.robot.relations (take p.turned p.begun) left_over
+        (subst (IsLayered p.read.robot.relations) (sym (take-append-drop p.turned p.begun)) is.begun.layered)).1,
     subst (AllByRecursion (λ c. p.scattered ≤ c.depth)) (sym (stand_as_begun none)) is.after,
   )
 
@@ -192,12 +253,17 @@ module _ (number : ℕ) (cells : List CellFacts) (k : CycleContext) (p : Progres
   gathers_timely = subst IsTimely (sym round_now) can.1.1.timely
 
   pub gathers_can : p.gathered ≡ false → (count : ℕ)
-      → AllByRecursion (CanFly k.robot.places k.robot.relations k.robot.period_us (length k.robot.hardware.loans)) (take count (drop p.turned cells))
+      → AllByRecursion (CanFly k.robot.places k.robot.relations k.robot.period_us (length k.robot.hardware.loans))
+      (take count (drop p.turned cells))
   gathers_can none count =
-      let all = subst (AllByRecursion (CanFly a.placed a.related a.period_us (length k.robot.hardware.loans))) (sym (stand_as_begun none)) each_left in
-      let some = (all_parts (CanFly a.placed a.related a.period_us (length k.robot.hardware.loans)) (take count (drop p.turned cells)) (drop count (drop p.turned cells))
-      (subst (AllByRecursion (CanFly a.placed a.related a.period_us (length k.robot.hardware.loans))) (sym (take-append-drop count (drop p.turned cells))) all)).0 in
-      subst (λ (x : Aloft). AllByRecursion (CanFly x.placed x.related x.period_us (length k.robot.hardware.loans)) (take count (drop p.turned cells))) (sym round_now) some
+      let all = subst (AllByRecursion (CanFly a.placed a.related a.period_us (length k.robot.hardware.loans)))
+      (sym (stand_as_begun none)) each_left in
+      let some = (all_parts (CanFly a.placed a.related a.period_us (length k.robot.hardware.loans))
+      (take count (drop p.turned cells)) (drop count (drop p.turned cells))
+      (subst (AllByRecursion (CanFly a.placed a.related a.period_us (length k.robot.hardware.loans)))
+      (sym (take-append-drop count (drop p.turned cells))) all)).0 in
+      subst (λ (x : Aloft). AllByRecursion (CanFly x.placed x.related x.period_us (length k.robot.hardware.loans))
+      (take count (drop p.turned cells))) (sym round_now) some
 
   -- and those that follow the ones of the depth are deeper
   pub gathers_deeper : p.gathered ≡ false → (count : ℕ) → StartsElsewhere p.scattered (drop count (drop p.turned cells))
@@ -206,28 +272,38 @@ module _ (number : ℕ) (cells : List CellFacts) (k : CycleContext) (p : Progres
       let left = depths_left none in
       let whole = sym (take-append-drop count (drop p.turned cells)) in
       deeper_from p.read.robot.relations p.scattered (drop count (drop p.turned cells))
-      (layered_parts p.read.robot.relations (take count (drop p.turned cells)) (drop count (drop p.turned cells)) (subst (IsLayered p.read.robot.relations) whole left.0)).1
-      (all_parts (λ c. p.scattered ≤ c.depth) (take count (drop p.turned cells)) (drop count (drop p.turned cells)) (subst (AllByRecursion (λ c. p.scattered ≤ c.depth)) whole left.1)).1 elsewhere
+      (layered_parts p.read.robot.relations (take count (drop p.turned cells)) (drop count (drop p.turned cells))
+      (subst (IsLayered p.read.robot.relations) whole left.0)).1
+      (all_parts (λ c. p.scattered ≤ c.depth) (take count (drop p.turned cells)) (drop count (drop p.turned cells))
+      (subst (AllByRecursion (λ c. p.scattered ≤ c.depth)) whole left.1)).1 elsewhere
 
   pub within_now : p.turned ≤ length cells
   within_now = omega (arith, is.within, is.as_many, is.many)
 
   -- those of the depth have read
-  pub gathered : p.gathered ≡ false → (count : ℕ) (cells' : List CellFacts) → count ≤ length (drop p.turned cells) → p.scattered < p.depths
-      → AllByRecursion (λ c. c.depth ≡ p.scattered) (take count (drop p.turned cells)) → AllByRecursion (λ c. p.scattered < c.depth) (drop count (drop p.turned cells))
-      → cells' ≡ take p.turned cells ++ (map (cell_read a k.robot.hardware.loans) (take count (drop p.turned cells)) ++ drop count (drop p.turned cells))
+  pub gathered : p.gathered ≡ false → (count : ℕ) (cells' : List CellFacts) → count ≤ length (drop p.turned cells)
+      → p.scattered < p.depths
+      → AllByRecursion (λ c. c.depth ≡ p.scattered) (take count (drop p.turned cells))
+      → AllByRecursion (λ c. p.scattered < c.depth) (drop count (drop p.turned cells))
+      → cells' ≡ take p.turned cells
+      ++ (map (cell_read a k.robot.hardware.loans) (take count (drop p.turned cells))
+      ++ drop count (drop p.turned cells))
       → IsTurning number cells' k (record p { gathered = true; waiting = count; left = cells' })
   gathered none count cells' few below one deeper came =
       let settled = is.settled none in
       let stand = stand_as_begun none in
       let long : length (take p.turned cells) ≡ p.turned = length-take-le p.turned cells within_now in
-      let rest : List CellFacts = map (cell_read a k.robot.hardware.loans) (take count (drop p.turned cells)) ++ drop count (drop p.turned cells) in
-      let front : take p.turned cells' ≡ take p.turned p.left = ap (take p.turned) came ∙ front_is p.turned (take p.turned cells) rest long ∙ ap (take p.turned) settled.1 in
-      let back : drop p.turned cells' ≡ rest = ap (drop p.turned) came ∙ rest_is p.turned (take p.turned cells) rest long in
+      let rest : List CellFacts =
+      map (cell_read a k.robot.hardware.loans) (take count (drop p.turned cells)) ++ drop count (drop p.turned cells) in
+      let front : take p.turned cells' ≡ take p.turned p.left =
+      ap (take p.turned) came ∙ front_is p.turned (take p.turned cells) rest long ∙ ap (take p.turned) settled.1 in
+      let back : drop p.turned cells' ≡ rest =
+      ap (drop p.turned) came ∙ rest_is p.turned (take p.turned cells) rest long in
       let count_rest : length rest ≡ length (drop p.turned cells) =
       omega (
         arith,
-        length-append (map (cell_read a k.robot.hardware.loans) (take count (drop p.turned cells))) (drop count (drop p.turned cells)),
+        length-append (map (cell_read a k.robot.hardware.loans) (take count (drop p.turned cells)))
+            (drop count (drop p.turned cells)),
         length-map (take count (drop p.turned cells)) (cell_read a k.robot.hardware.loans),
         length-take-le count (drop p.turned cells) few,
         length-drop count (drop p.turned cells),
@@ -236,15 +312,30 @@ module _ (number : ℕ) (cells : List CellFacts) (k : CycleContext) (p : Progres
       record {
         begun = is.begun;
         depths = is.depths;
-        turned = subst (λ (xs : List CellFacts). HasTurned number p.read (take p.turned p.begun) left_over xs k) (sym front) is.turned;
-        later = back ∙ ap (λ (xs : List CellFacts). map (cell_read a k.robot.hardware.loans) (take count xs) ++ drop count xs) stand;
-        one_depth = subst (λ (xs : List CellFacts). AllByRecursion (λ c. c.depth ≡ p.scattered) (take count xs)) stand one;
+        turned = subst (λ (xs : List CellFacts). HasTurned number p.read (take p.turned p.begun) left_over xs k)
+            (sym front) is.turned;
+        later = back
+            ∙ ap (λ (xs : List CellFacts). map (cell_read a k.robot.hardware.loans) (take count xs) ++ drop count xs)
+            stand;
+        one_depth = subst (λ (xs : List CellFacts). AllByRecursion (λ c. c.depth ≡ p.scattered) (take count xs)) stand
+            one;
         after = is.after;
-        deeper = λ truly. subst (λ (xs : List CellFacts). AllByRecursion (λ c. p.scattered < c.depth) (drop count xs)) stand deeper;
+        deeper = λ truly. subst (λ (xs : List CellFacts). AllByRecursion (λ c. p.scattered < c.depth) (drop count xs))
+            stand deeper;
         below = λ truly. below;
         settled = λ (e : true ≡ false). cc;
         within = omega (arith, few, length-drop p.turned cells, is.many, is.as_many, is.within);
-        as_many = omega (arith, ap (λ (xs : List CellFacts). length xs) came, length-append (take p.turned cells) rest, long, count_rest, length-drop p.turned cells, within_now, is.many, is.as_many);
+        as_many = omega (
+          arith,
+          ap (λ (xs : List CellFacts). length xs) came,
+          length-append (take p.turned cells) rest,
+          long,
+          count_rest,
+          length-drop p.turned cells,
+          within_now,
+          is.many,
+          is.as_many,
+        );
         many = refl;
       }
 
@@ -302,11 +393,16 @@ module _ (number : ℕ) (cells : List CellFacts) (k : CycleContext) (p : Progres
     -- who stands where is as before
     posts_now : map post_of (waiting_of p cells) ≡ map post_of layer
     posts_now =
-        sym (take-map post_of p.waiting (drop p.turned cells)) ∙ ap (take p.waiting) (sym (drop-map post_of p.turned cells) ∙ ap (drop p.turned) made.posts ∙ drop-map post_of p.turned p.left)
-        ∙ take-map post_of p.waiting (drop p.turned p.left) ∙ ap (map post_of) waiting_left ∙ read_posts a k.robot.hardware.loans (length k.robot.hardware.loans) layer each_parts.0
+        sym (take-map post_of p.waiting (drop p.turned cells))
+        ∙ ap (take p.waiting)
+        (sym (drop-map post_of p.turned cells) ∙ ap (drop p.turned) made.posts ∙ drop-map post_of p.turned p.left)
+        ∙ take-map post_of p.waiting (drop p.turned p.left) ∙ ap (map post_of) waiting_left
+        ∙ read_posts a k.robot.hardware.loans (length k.robot.hardware.loans) layer each_parts.0
 
     -- so what they came to can be put
-    pub can_put : IsSomeAnd k.room (λ r. CanPutAll k.robot.places (length k.robot.hardware.loans) (waiting_of p cells) r.ran (vec_len k.erred) (vec_capacity k.erred))
+    pub can_put : IsSomeAnd k.room
+        (λ r. CanPutAll k.robot.places (length k.robot.hardware.loans) (waiting_of p cells) r.ran (vec_len k.erred)
+        (vec_capacity k.erred))
     can_put =
         let board = length k.robot.hardware.loans in
         let after = waiting_of p cells in
@@ -316,14 +412,25 @@ module _ (number : ℕ) (cells : List CellFacts) (k : CycleContext) (p : Progres
         let count = count_by layer after posts in
         let room = can.1.1 in
         let parts : left_over ≡ layer ++ others = sym (take-append-drop p.waiting left_over) in
-        let all_count : length left_over ≡ length layer + length others = ap (λ (cs : List CellFacts). length cs) parts ∙ length-append layer others in
-        let out_count : all_outs left_over ≡ all_outs layer + all_outs others = ap all_outs parts ∙ outs_append layer others in
-        let number_count : all_numbers left_over ≡ all_numbers layer + all_numbers others = ap all_numbers parts ∙ numbers_append layer others in
-        some_at k.room can.0 (λ r. CanPutAll k.robot.places board after r.ran (vec_len k.erred) (vec_capacity k.erred)) can.1.0
-        (subst (λ (placed : Placed). CanPutAll placed board after can.0.ran (vec_len k.erred) (vec_capacity k.erred)) (sym (ap (λ (x : Aloft). x.placed) round_now)) (record {
-          connected = all_by_posts (λ (d : CellFacts). IsConnectedTo a.placed board d.workspace) (connected_by a.placed board) layer after posts (each_of a board (λ d. IsConnectedTo a.placed board d.workspace) (λ d each. each.connected) layer each_parts.0);
-          few_states = all_by_posts (λ (d : CellFacts). length d.workspace.states < 2 ^ 8) few_states_by layer after posts (each_of a board (λ d. length d.workspace.states < 2 ^ 8) (λ d each. each.few_states) layer each_parts.0);
-          few_outs = all_by_posts (λ (d : CellFacts). length d.workspace.outs < 2 ^ 8) few_outs_by layer after posts (each_of a board (λ d. length d.workspace.outs < 2 ^ 8) (λ d each. each.few_outs) layer each_parts.0);
+        let all_count : length left_over ≡ length layer + length others =
+        ap (λ (cs : List CellFacts). length cs) parts ∙ length-append layer others in
+        let out_count : all_outs left_over ≡ all_outs layer + all_outs others =
+        ap all_outs parts ∙ outs_append layer others in
+        let number_count : all_numbers left_over ≡ all_numbers layer + all_numbers others =
+        ap all_numbers parts ∙ numbers_append layer others in
+        some_at k.room can.0 (λ r. CanPutAll k.robot.places board after r.ran (vec_len k.erred) (vec_capacity k.erred))
+        can.1.0
+        (subst (λ (placed : Placed). CanPutAll placed board after can.0.ran (vec_len k.erred) (vec_capacity k.erred))
+        (sym (ap (λ (x : Aloft). x.placed) round_now)) (record {
+          connected = all_by_posts (λ (d : CellFacts). IsConnectedTo a.placed board d.workspace)
+              (connected_by a.placed board) layer after posts
+              (each_of a board (λ d. IsConnectedTo a.placed board d.workspace) (λ d each. each.connected) layer
+              each_parts.0);
+          few_states =
+              all_by_posts (λ (d : CellFacts). length d.workspace.states < 2 ^ 8) few_states_by layer after posts
+              (each_of a board (λ d. length d.workspace.states < 2 ^ 8) (λ d each. each.few_states) layer each_parts.0);
+          few_outs = all_by_posts (λ (d : CellFacts). length d.workspace.outs < 2 ^ 8) few_outs_by layer after posts
+              (each_of a board (λ d. length d.workspace.outs < 2 ^ 8) (λ d each. each.few_outs) layer each_parts.0);
           told = record {
             heads = omega (arith, room.told.heads, count, all_count);
             values = omega (arith, room.told.values, outs, out_count);
@@ -336,12 +443,17 @@ module _ (number : ℕ) (cells : List CellFacts) (k : CycleContext) (p : Progres
     tells =
         let s = is.begun.aloft.0 in
         let of = is.begun.aloft.1 in
-        subst (λ (placed : Placed). TellsApart placed a.related) (sym of.placed) (subst (λ (related : Related). TellsApart (placed_of s.description) related) (sym of.related) (tells_apart s.description))
+        subst (λ (placed : Placed). TellsApart placed a.related) (sym of.placed)
+        (subst (λ (related : Related). TellsApart (placed_of s.description) related) (sym of.related)
+        (tells_apart s.description))
 
     none_precedes : NonePrecedes a.related layer
     none_precedes =
-        let rest = (layered_parts a.related (take p.turned p.begun) left_over (subst (IsLayered a.related) (sym (take-append-drop p.turned p.begun)) is.begun.layered)).1 in
-        none_in_layer a.related p.scattered layer (layered_parts a.related layer others (subst (IsLayered a.related) (sym (take-append-drop p.waiting left_over)) rest)).0 is.one_depth
+        let rest = (layered_parts a.related (take p.turned p.begun) left_over
+        (subst (IsLayered a.related) (sym (take-append-drop p.turned p.begun)) is.begun.layered)).1 in
+        none_in_layer a.related p.scattered layer
+        (layered_parts a.related layer others
+        (subst (IsLayered a.related) (sym (take-append-drop p.waiting left_over)) rest)).0 is.one_depth
 
     -- the turns of the depth are had,
     module _ (k' : CycleContext) (puts : Scatters (waiting_of p cells) (map cell_put (waiting_of p cells)) k k') where
@@ -358,25 +470,32 @@ module _ (number : ℕ) (cells : List CellFacts) (k : CycleContext) (p : Progres
       f = flying_in k
 
       same : IsTogether a k.robot.hardware.loans layer f
-      same = together a k.robot.hardware.loans can.1.1.timely layer f (each_of a (length k.robot.hardware.loans) (CanStep a.related a.period_us) (λ d each. each.steps) layer each_parts.0)
+      same = together a k.robot.hardware.loans can.1.1.timely layer f
+          (each_of a (length k.robot.hardware.loans) (CanStep a.related a.period_us) (λ d each. each.steps) layer
+          each_parts.0)
           (all_apart a.placed a.related tells layer none_precedes) (reads_itself a f layer)
 
       put_now : put ≡ cells_after a layer f
       put_now = ap (map cell_put) waiting_now ∙ same.cells
 
       flown : flying_in k' ≡ all_flown a layer f
-      flown = puts.flying ∙ ap (λ (x : Aloft). all_put x.placed (waiting_of p cells) f) round_now ∙ ap (λ (cs : List CellFacts). all_put a.placed cs f) waiting_now ∙ same.flying
+      flown = puts.flying ∙ ap (λ (x : Aloft). all_put x.placed (waiting_of p cells) f) round_now
+          ∙ ap (λ (cs : List CellFacts). all_put a.placed cs f) waiting_now ∙ same.flying
 
       -- as much room is left as the others need
       abbrev LeavesRoom : RecordRoom → RecordRoom → Type 0
       LeavesRoom before after =
-          TellsBut before after × LeavesPut (length (waiting_of p cells)) (all_outs (waiting_of p cells)) (all_numbers (waiting_of p cells)) (length k.robot.hardware.loans)
-          (length k'.robot.hardware.loans) before.ran after.ran (vec_len k.erred) (vec_len k'.erred) (vec_capacity k.erred) (vec_capacity k'.erred)
+          TellsBut before after
+          × LeavesPut (length (waiting_of p cells)) (all_outs (waiting_of p cells)) (all_numbers (waiting_of p cells))
+          (length k.robot.hardware.loans)
+          (length k'.robot.hardware.loans) before.ran after.ran (vec_len k.erred) (vec_len k'.erred)
+          (vec_capacity k.erred) (vec_capacity k'.erred)
 
       abbrev CanTurnIn : RecordRoom → Type 0
       CanTurnIn r = CanTurn a (length k.robot.hardware.loans) left_over r.ran (vec_len k.erred) (vec_capacity k.erred)
 
-      rooms_now : (r : RecordRoom) × ((r' : RecordRoom) × ((k.room ≡ Some r) × ((k'.room ≡ Some r') × (CanTurnIn r × LeavesRoom r r'))))
+      rooms_now : (r : RecordRoom)
+          × ((r' : RecordRoom) × ((k.room ≡ Some r) × ((k'.room ≡ Some r') × (CanTurnIn r × LeavesRoom r r'))))
       rooms_now = some_of_both k.room k'.room CanTurnIn LeavesRoom is.turned.can puts.room
 
       has_turned : HasTurned number p.read (first ++ layer) others (done ++ put) k'
@@ -390,63 +509,104 @@ module _ (number : ℕ) (cells : List CellFacts) (k : CycleContext) (p : Progres
           let leaves = rooms_now.1.1.1.1.1.1 in
           let turned = is.turned.turned in
           let parts : left_over ≡ layer ++ others = sym (take-append-drop p.waiting left_over) in
-          let all_count : length left_over ≡ length layer + length others = ap (λ (cs : List CellFacts). length cs) parts ∙ length-append layer others in
-          let out_count : all_outs left_over ≡ all_outs layer + all_outs others = ap all_outs parts ∙ outs_append layer others in
-          let number_count : all_numbers left_over ≡ all_numbers layer + all_numbers others = ap all_numbers parts ∙ numbers_append layer others in
+          let all_count : length left_over ≡ length layer + length others =
+          ap (λ (cs : List CellFacts). length cs) parts ∙ length-append layer others in
+          let out_count : all_outs left_over ≡ all_outs layer + all_outs others =
+          ap all_outs parts ∙ outs_append layer others in
+          let number_count : all_numbers left_over ≡ all_numbers layer + all_numbers others =
+          ap all_numbers parts ∙ numbers_append layer others in
           let count = count_by (waiting_of p cells) layer posts_now in
           let outs = outs_by (waiting_of p cells) layer posts_now in
           let numbers = numbers_by (waiting_of p cells) layer posts_now in
           record {
             context = puts.context
-                ∙ ap (λ (x : CycleContext). record x { robot = record x.robot { hardware = k'.robot.hardware }; erred = k'.erred; room = k'.room }) is.turned.context;
+                ∙ ap (λ (x : CycleContext). record x
+                { robot = record x.robot { hardware = k'.robot.hardware }; erred = k'.erred; room = k'.room })
+                is.turned.context;
             room = some_mapped p.read.room (λ r. IsSomeAnd k.room (TellsBut r)) (λ r. IsSomeAnd k'.room (TellsBut r))
-                (λ r tells_now. some_at k'.room after (TellsBut r) there' (told ∙ ap (λ (x : RecordRoom). record x { ran = after.ran }) (at_some k.room before (TellsBut r) there tells_now))) is.turned.room;
+                (λ r tells_now. some_at k'.room after (TellsBut r) there'
+                (told ∙ ap (λ (x : RecordRoom). record x { ran = after.ran })
+                (at_some k.room before (TellsBut r) there tells_now))) is.turned.room;
             turned = record {
-              cells = ap₂ (λ (xs ys : List CellFacts). xs ++ ys) turned.cells (put_now ∙ ap (cells_after a layer) turned.flying) ∙ sym (cells_append a first layer (flying_in p.read));
-              flying = flown ∙ ap (all_flown a layer) turned.flying ∙ sym (flown_append a first layer (flying_in p.read));
-              posts = map-append post_of done put ∙ ap₂ (λ (xs ys : List Post). xs ++ ys) turned.posts (put_posts (waiting_of p cells) ∙ posts_now) ∙ sym (map-append post_of first layer);
+              cells = ap₂ (λ (xs ys : List CellFacts). xs ++ ys) turned.cells
+                  (put_now ∙ ap (cells_after a layer) turned.flying)
+                  ∙ sym (cells_append a first layer (flying_in p.read));
+              flying = flown ∙ ap (all_flown a layer) turned.flying
+                  ∙ sym (flown_append a first layer (flying_in p.read));
+              posts = map-append post_of done put
+                  ∙ ap₂ (λ (xs ys : List Post). xs ++ ys) turned.posts (put_posts (waiting_of p cells) ∙ posts_now)
+                  ∙ sym (map-append post_of first layer);
             };
-            can = some_at k'.room after (λ r. CanTurn a (length k'.robot.hardware.loans) others r.ran (vec_len k'.erred) (vec_capacity k'.erred)) there' (record {
-              timely = room.timely;
-              each = subst (λ (board : ℕ). AllByRecursion (CanFly a.placed a.related a.period_us board) others) (sym leaves.board) each_parts.1;
-              told = record {
-                heads = omega (arith, room.told.heads, leaves.heads, count, all_count);
-                values = omega (arith, room.told.values, leaves.values, outs, out_count);
-                numbers = omega (arith, room.told.numbers, leaves.numbers, numbers, number_count);
-              };
-              erred = omega (arith, room.erred, leaves.erred, leaves.capacity, count, all_count);
-            });
+            can = some_at k'.room after
+                (λ r. CanTurn a (length k'.robot.hardware.loans) others r.ran (vec_len k'.erred)
+                (vec_capacity k'.erred)) there' (record {
+                  timely = room.timely;
+                  each = subst (λ (board : ℕ). AllByRecursion (CanFly a.placed a.related a.period_us board) others)
+                      (sym leaves.board) each_parts.1;
+                  told = record {
+                    heads = omega (arith, room.told.heads, leaves.heads, count, all_count);
+                    values = omega (arith, room.told.values, leaves.values, outs, out_count);
+                    numbers = omega (arith, room.told.numbers, leaves.numbers, numbers, number_count);
+                  };
+                  erred = omega (arith, room.erred, leaves.erred, leaves.capacity, count, all_count);
+                });
             capacity = leaves.capacity ∙ is.turned.capacity;
           }
 
       -- and the next one may be gathered
       pub scattered : p.gathered ≡ true → (cells' : List CellFacts) → cells' ≡ with_waiting p cells put
-          → IsTurning number cells' k' (record p { scattered = p.scattered + 1; gathered = false; turned = p.turned + p.waiting; waiting = 0; left = cells' })
+          → IsTurning number cells' k'
+          (record p {
+            scattered = p.scattered + 1;
+            gathered = false;
+            turned = p.turned + p.waiting;
+            waiting = 0;
+            left =
+                cells';
+          })
       scattered truly cells' came =
           let n = p.turned in
           let m = p.waiting in
-          let put_long : length put ≡ m = length-map (waiting_of p cells) cell_put ∙ ap (λ (cs : List CellFacts). length cs) waiting_now ∙ ran_long in
+          let put_long : length put ≡ m =
+          length-map (waiting_of p cells) cell_put ∙ ap (λ (cs : List CellFacts). length cs) waiting_now ∙ ran_long in
           let both_long : length (done ++ put) ≡ n + m = omega (arith, length-append done put, front_long, put_long) in
           let whole : cells' ≡ (done ++ put) ++ others =
-          came ∙ ap₂ (λ (xs ys : List CellFacts). xs ++ (put ++ ys)) front_now others_now ∙ sym (append_assoc done put others) in
-          let front : take (n + m) cells' ≡ done ++ put = ap (take (n + m)) whole ∙ front_is (n + m) (done ++ put) others both_long in
-          let back : drop (n + m) cells' ≡ others = ap (drop (n + m)) whole ∙ rest_is (n + m) (done ++ put) others both_long in
+          came ∙ ap₂ (λ (xs ys : List CellFacts). xs ++ (put ++ ys)) front_now others_now
+          ∙ sym (append_assoc done put others) in
+          let front : take (n + m) cells' ≡ done ++ put =
+          ap (take (n + m)) whole ∙ front_is (n + m) (done ++ put) others both_long in
+          let back : drop (n + m) cells' ≡ others =
+          ap (drop (n + m)) whole ∙ rest_is (n + m) (done ++ put) others both_long in
           let begun_front : take (n + m) p.begun ≡ first ++ layer = take-add n m p.begun in
           let begun_back : drop (n + m) p.begun ≡ others = drop_more_parts n m p.begun in
           record {
             begun = is.begun;
             depths = is.depths;
-            turned = subst (λ (xs : List CellFacts). HasTurned number p.read xs (drop (n + m) p.begun) (take (n + m) cells') k') (sym begun_front)
-                (subst (λ (xs : List CellFacts). HasTurned number p.read (first ++ layer) xs (take (n + m) cells') k') (sym begun_back)
-                (subst (λ (xs : List CellFacts). HasTurned number p.read (first ++ layer) others xs k') (sym front) has_turned));
+            turned = subst
+                (λ (xs : List CellFacts). HasTurned number p.read xs (drop (n + m) p.begun) (take (n + m) cells') k')
+                (sym begun_front)
+                (subst (λ (xs : List CellFacts). HasTurned number p.read (first ++ layer) xs (take (n + m) cells') k')
+                (sym begun_back)
+                (subst (λ (xs : List CellFacts). HasTurned number p.read (first ++ layer) others xs k') (sym front)
+                has_turned));
             later = back ∙ sym begun_back;
             one_depth = tt;
-            after = subst (AllByRecursion (λ c. p.scattered + 1 ≤ c.depth)) (sym begun_back) (all_weaker (λ c. p.scattered < c.depth) (λ c. p.scattered + 1 ≤ c.depth) (λ c less. omega (arith, less)) others (is.deeper truly));
+            after = subst (AllByRecursion (λ c. p.scattered + 1 ≤ c.depth)) (sym begun_back)
+                (all_weaker (λ c. p.scattered < c.depth) (λ c. p.scattered + 1 ≤ c.depth)
+                (λ c less. omega (arith, less)) others (is.deeper truly));
             deeper = λ (e : false ≡ true). cc;
             below = λ (e : false ≡ true). cc;
             settled = λ e. (refl, refl);
             within = omega (arith, is.within);
-            as_many = omega (arith, ap (λ (xs : List CellFacts). length xs) whole, length-append (done ++ put) others, both_long, length-drop m left_over, length-drop n p.begun, is.within);
+            as_many = omega (
+              arith,
+              ap (λ (xs : List CellFacts). length xs) whole,
+              length-append (done ++ put) others,
+              both_long,
+              length-drop m left_over,
+              length-drop n p.begun,
+              is.within,
+            );
             many = refl;
           }
 
@@ -456,15 +616,20 @@ module _ (number : ℕ) (cells : List CellFacts) (k : CycleContext) (p : Progres
   pub all_turned : p.gathered ≡ false → p.scattered ≡ p.depths → HaveAllTurned number p.begun cells p.read k
   all_turned none last =
       let settled = is.settled none in
-      let nobody : left_over ≡ [] = none_left p.scattered (take p.turned p.begun) left_over (last ∙ is.depths ∙ ap depths_of (sym (take-append-drop p.turned p.begun))) is.after in
+      let nobody : left_over ≡ [] =
+      none_left p.scattered (take p.turned p.begun) left_over
+      (last ∙ is.depths ∙ ap depths_of (sym (take-append-drop p.turned p.begun))) is.after in
       let all : take p.turned p.begun ≡ p.begun =
-      sym (append-nil (take p.turned p.begun)) ∙ ap (λ (xs : List CellFacts). take p.turned p.begun ++ xs) (sym nobody) ∙ take-append-drop p.turned p.begun in
+      sym (append-nil (take p.turned p.begun)) ∙ ap (λ (xs : List CellFacts). take p.turned p.begun ++ xs) (sym nobody)
+      ∙ take-append-drop p.turned p.begun in
       let left : drop p.turned p.left ≡ [] = ap (drop p.turned) (sym settled.1) ∙ stand_as_begun none ∙ nobody in
       let here : take p.turned p.left ≡ cells =
-      sym (append-nil (take p.turned p.left)) ∙ ap (λ (xs : List CellFacts). take p.turned p.left ++ xs) (sym left) ∙ take-append-drop p.turned p.left ∙ sym settled.1 in
+      sym (append-nil (take p.turned p.left)) ∙ ap (λ (xs : List CellFacts). take p.turned p.left ++ xs) (sym left)
+      ∙ take-append-drop p.turned p.left ∙ sym settled.1 in
       record {
         start = is.begun;
         turned = subst (λ (xs : List CellFacts). HasTurned number p.read xs [] cells k) all
             (subst (λ (xs : List CellFacts). HasTurned number p.read (take p.turned p.begun) xs cells k) nobody
-            (subst (λ (xs : List CellFacts). HasTurned number p.read (take p.turned p.begun) left_over xs k) here is.turned));
+            (subst (λ (xs : List CellFacts). HasTurned number p.read (take p.turned p.begun) left_over xs k) here
+            is.turned));
       }

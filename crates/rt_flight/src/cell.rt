@@ -1,11 +1,13 @@
 //! A running controller in its cell.
 
-ghost use Rattle.std.specs.Prelude.{◌≡◌, [], ◌∷◌, ◌++◌, ◌+◌, ◌<◌, ◌≤◌, ◌==◌, length, vec_len, vec_capacity, None, Some, is_some};
+ghost use Rattle.std.specs.Prelude.{◌≡◌, [], ◌∷◌, ◌++◌, ◌+◌, ◌<◌, ◌≤◌, ◌==◌, length};
+ghost use Rattle.std.specs.Prelude.{vec_len, vec_capacity, None, Some, is_some};
 ghost use Rattle.std.specs.List.{list_any};
 ghost use Rattle.cm_document.specs.declared.life.Life.TheVariants.{Active};
 ghost use Rattle.cm_slots.specs.Lives.{CanBeStepped, IsKept};
 ghost use Rattle.cm_slots.specs.Updates.{IsTimely};
-ghost use Rattle.rt_flight.specs.Cells.{flying, flying_put, cell_read, cell_run, cell_put, cell_stepped, step_at, post_of, numbers_of, precedes_in, CanFly, CanMakeStep};
+ghost use Rattle.rt_flight.specs.Cells.{flying, flying_put, cell_read, cell_run, cell_put, cell_stepped};
+ghost use Rattle.rt_flight.specs.Cells.{step_at, post_of, numbers_of, precedes_in, CanFly, CanMakeStep};
 ghost use Rattle.rt_flight.specs.Calls.Cells.{CanPut, LeavesPut};
 
 use crate::round::Round;
@@ -20,7 +22,8 @@ use ctl_trait::Controller;
 use std::marker::Model;
 use switch_plan::Relations;
 
-/// A controller that runs, in its cell: its box, where it stands, and the mail that went aloft for it. Contracts see it as `CellFacts`.
+/// A controller that runs, in its cell: its box, where it stands, and the mail that went aloft for it. Contracts see it
+/// as `CellFacts`.
 #[derive(Drop)]
 pub struct Cell<C: Controller> {
     workspace: Workspace,
@@ -81,8 +84,8 @@ impl<C: Controller> Cell<C> {
         (self.workspace, self.running.into_ctl())
     }
 
-    /// Its depth among the running controllers, once the flight started: 0 if none of them precedes it, else one more than the greatest
-    /// depth of one that does.
+    /// Its depth among the running controllers, once the flight started: 0 if none of them precedes it, else one more
+    /// than the greatest depth of one that does.
     pub fn depth(&self) -> u32
         ensures { result ≡ self.now.depth }
     {
@@ -96,8 +99,8 @@ impl<C: Controller> Cell<C> {
         self.depth = depth;
     }
 
-    /// If it is updated in the cycle, its states and its references are read, as the interfaces hold them now, and from then on it knows
-    /// when that is. It takes no memory.
+    /// If it is updated in the cycle, its states and its references are read, as the interfaces hold them now, and from
+    /// then on it knows when that is. It takes no memory.
     pub(crate) fn gather(&mut self, round: &Round<'_>, hardware: &ResourceManager)
         requires timely { IsTimely round.now }
         requires can { CanFly round.now.placed round.now.related round.now.period_us (length hardware.now.loans)
@@ -118,8 +121,9 @@ impl<C: Controller> Cell<C> {
         self.turn.is_some()
     }
 
-    /// It makes its step in the cycle: if it is updated, it takes its mail and is updated from what was read for it; else its mail is
-    /// lost. It needs nothing but the cell, which can go to another thread if its box can, and takes no memory.
+    /// It makes its step in the cycle: if it is updated, it takes its mail and is updated from what was read for it;
+    /// else its mail is lost. It needs nothing but the cell, which can go to another thread if its box can, and takes
+    /// no memory.
     pub fn step(&mut self)
         requires { CanMakeStep self.old }
         ensures run { self.new ≡ cell_run self.old }

@@ -1,4 +1,5 @@
-//! The parts of a cycle, of what a flight owns: it begins, the cells of a depth read and give out, it ends, and it is settled who stops.
+//! The parts of a cycle, of what a flight owns: it begins, the cells of a depth read and give out, it ends, and it is
+//! settled who stops.
 
 ghost use Rattle.std.specs.Prelude.{◌≡◌, ◌≤◌, [], true, false, map, length, vec_len, vec_capacity, is_some, IsSomeAnd};
 ghost use Rattle.std.specs.List.{AllByRecursion};
@@ -28,8 +29,8 @@ use ctl_trait::Controller;
 use stop_plan::{Ending, Report};
 use switch_plan::Relations;
 
-/// The cycle of this number begins: the components are read, and the depths of the cells are put down. It answers how many depths there
-/// are, and takes no memory.
+/// The cycle of this number begins: the components are read, and the depths of the cells are put down. It answers how
+/// many depths there are, and takes no memory.
 pub(crate) fn begin_turns<C: Controller>(
     number: u64,
     cells: &mut [Cell<C>],
@@ -120,8 +121,8 @@ fn scatter_in<C: Controller>(
     );
 }
 
-/// The cycle of this number ends: the writes and the steps of the bodies; the components that failed go to their states on error; it is
-/// settled who stops; and all of it is told. It takes no memory.
+/// The cycle of this number ends: the writes and the steps of the bodies; the components that failed go to their states
+/// on error; it is settled who stops; and all of it is told. It takes no memory.
 pub(crate) fn end_turns<C: Controller>(number: u64, cells: &[Cell<C>], context: &mut CycleContext)
     requires { IsEnding number cells.now context.old }
     ensures { Ends number cells.now context.old context.new }
@@ -158,8 +159,8 @@ fn write_components(number: u64, robot: &mut Robot, room: &mut RecordRoom)
     robot.hardware.finish(number, robot.period_us, &mut room.failed, &mut room.bodies);
 }
 
-/// Who stops at the end of a cycle of these controllers, where a component or an update failed; it answers whether one did. It takes no
-/// memory.
+/// Who stops at the end of a cycle of these controllers, where a component or an update failed; it answers whether one
+/// did. It takes no memory.
 pub(crate) fn settle(
     ending: &mut Ending,
     order: &[Member],

@@ -6,8 +6,8 @@ use cm_model::Member;
 use cm_storage::{CycleParts, CycleRecord, RecordRoom, Standing};
 use stop_plan::Ending;
 
-/// What works in a cycle besides the controllers, and room to tell of it. It stands behind one pointer, which alone moves as a cycle leaves
-/// and comes home.
+/// What works in a cycle besides the controllers, and room to tell of it. It stands behind one pointer, which alone
+/// moves as a cycle leaves and comes home.
 #[derive(Drop)]
 pub struct CycleContext {
     /// What the controllers work on.
@@ -18,8 +18,8 @@ pub struct CycleContext {
     pub lists: Lists,
     /// The running controllers by serial and place, in the order of updates; at home those that ran last.
     pub order: Vec<Member>,
-    /// The serials of the controllers whose update failed, once the cycle is computed, with room for each that flies; at home those of the
-    /// cycle that landed last.
+    /// The serials of the controllers whose update failed, once the cycle is computed, with room for each that flies;
+    /// at home those of the cycle that landed last.
     pub erred: Vec<u32>,
     /// Whether a component or an update failed.
     pub has_failed: bool,

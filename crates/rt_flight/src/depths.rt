@@ -9,8 +9,8 @@ use crate::cell::Cell;
 use ctl_trait::Controller;
 use switch_plan::Relations;
 
-/// The depths of the cells, which stand in the order of updates, are put down; it answers how many there are. A cell stands in the depth
-/// of the cell before it, unless a controller of that depth precedes it. It takes no memory.
+/// The depths of the cells, which stand in the order of updates, are put down; it answers how many there are. A cell
+/// stands in the depth of the cell before it, unless a controller of that depth precedes it. It takes no memory.
 pub(crate) fn set_depths<C: Controller>(cells: &mut [Cell<C>], relations: &Relations) -> u32
     requires ranked { (ranked : ℕ → ℕ) × RanksDepths relations.now ranked (places_in cells.old) }
     requires related { AllByRecursion (λ c. c.workspace.place < length relations.now.leaders) cells.old }

@@ -4,7 +4,8 @@ ghost use Rattle.std.specs.Prelude.{◌≡◌, [], true, false, None, Some, is_s
 ghost use Rattle.std.specs.Borrow.{sem};
 ghost use Rattle.std.specs.List.{AllByRecursion};
 ghost use Rattle.cm_model.specs.State.{State};
-ghost use Rattle.rt_flight.specs.Calls.Parts.{IsStarted, CanGather, Waits, CanComplete, HaveMadeSteps, HasStarted, HasGathered, HasScattered, HadTurns, waiting_of};
+ghost use Rattle.rt_flight.specs.Calls.Parts.{IsStarted, CanGather, Waits, CanComplete, HaveMadeSteps};
+ghost use Rattle.rt_flight.specs.Calls.Parts.{HasStarted, HasGathered, HasScattered, HadTurns, waiting_of};
 ghost use Rattle.rt_flight.specs.Cells.{CanMakeStep};
 ghost use Rattle.rt_flight.specs.Depths.{depths_of};
 ghost use Rattle.rt_flight.specs.Flights.{IsEquipped, IsReady, IsAloft, IsComputed, ComesHome, MayBeComputed};
@@ -21,15 +22,16 @@ use ctl_trait::Controller;
 use std::marker::Model;
 use std::snapshot::Snapshot;
 
-/// What a flight takes along: the number of its cycle, the cells of the running controllers in the order of updates, and what they work on,
-/// with room to tell of it.
+/// What a flight takes along: the number of its cycle, the cells of the running controllers in the order of updates,
+/// and what they work on, with room to tell of it.
 #[derive(Drop)]
 pub struct Payload<C: Controller> {
     /// The number of the cycle.
     pub number: u64,
     /// The running controllers, in the order of updates.
     pub cells: Vec<Cell<C>>,
-    /// What works in the cycle, with who flies, and room to tell of it. Of what it has to tell of an earlier one nothing is kept.
+    /// What works in the cycle, with who flies, and room to tell of it. Of what it has to tell of an earlier one
+    /// nothing is kept.
     pub context: Box<CycleContext>,
 }
 
@@ -63,8 +65,9 @@ struct Stage<C: Controller> {
     left: Snapshot<Vec<Cell<C>>>,
 }
 
-/// One cycle that has left the desk. It owns all that it works on and borrows nothing, so it is computed wherever it is moved to. Who drops
-/// it, or takes it apart, has nothing that lands: the desk then stays aloft. Contracts see it as `FlightFacts`.
+/// One cycle that has left the desk. It owns all that it works on and borrows nothing, so it is computed wherever it is
+/// moved to. Who drops it, or takes it apart, has nothing that lands: the desk then stays aloft. Contracts see it as
+/// `FlightFacts`.
 #[derive(Drop)]
 pub struct Flight<C: Controller> {
     number: u64,
@@ -218,8 +221,9 @@ impl<C: Controller> Flight<C> {
     }
 }
 
-/// The parts of a cycle, for callers that share the steps of a depth among workers: it is started; each depth, from 0 on, is gathered, its
-/// cells make their steps, and it is scattered; and then the cycle is completed. None of these takes memory.
+/// The parts of a cycle, for callers that share the steps of a depth among workers: it is started; each depth, from 0
+/// on, is gathered, its cells make their steps, and it is scattered; and then the cycle is completed. None of these
+/// takes memory.
 impl<C: Controller> Flight<C> {
     ghost use Rattle.rt_flight.specs.Lending.{lends_cells};
 
@@ -282,8 +286,8 @@ impl<C: Controller> Flight<C> {
         self.cells.slice_mut(first..end)
     }
 
-    /// What the steps of this depth came to stands in the claims of its controllers. Its cells are those that were gathered, each of which
-    /// made its step once.
+    /// What the steps of this depth came to stands in the claims of its controllers. Its cells are those that were
+    /// gathered, each of which made its step once.
     pub fn scatter(&mut self, depth: u32)
         requires waits { Waits depth self.old }
         requires stepped { IfSome self.old.progress (λ p. HaveMadeSteps p self.old.cells) }
@@ -300,7 +304,8 @@ impl<C: Controller> Flight<C> {
         self.stage.left = Snapshot::of(&self.cells);
     }
 
-    /// The cycle ends: the components are written, the bodies step, and it is told what happened. The flight is computed then.
+    /// The cycle ends: the components are written, the bodies step, and it is told what happened. The flight is
+    /// computed then.
     pub fn complete(&mut self)
         requires { CanComplete self.old }
         ensures cycle { (s : State) → IsUnderWay s self.old → IsComputed s self.new }

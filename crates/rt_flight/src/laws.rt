@@ -15,8 +15,8 @@ pub fn a_flight_stays_aloft()
     ensures { (begun : State) (flight : FlightFacts) → IsAloft begun flight → StaysAloft begun flight }
 {}
 
-/// Of the active controllers none precedes another of its depth: what one claims is no reference of the other. So all of a depth may read
-/// before one of them gives out, and workers may share a depth.
+/// Of the active controllers none precedes another of its depth: what one claims is no reference of the other. So all
+/// of a depth may read before one of them gives out, and workers may share a depth.
 pub fn controllers_of_one_depth_do_not_precede_one_another()
     ensures none { (s : State) (p q : ℕ) → IsValid s.description → active s p ≡ true
         → depth s.description.controllers (active s) p ≡ depth s.description.controllers (active s) q

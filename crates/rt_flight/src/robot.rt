@@ -4,8 +4,8 @@ use cm_hardware::ResourceManager;
 use cm_places::CtlPlaces;
 use switch_plan::Relations;
 
-/// The hardware, and what is worked out of the description: where the controllers stand to the board and to each other, and the time from
-/// one cycle to the next in microseconds.
+/// The hardware, and what is worked out of the description: where the controllers stand to the board and to each other,
+/// and the time from one cycle to the next in microseconds.
 #[derive(Drop)]
 pub struct Robot {
     /// The components, and the board of their interfaces.

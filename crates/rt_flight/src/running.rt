@@ -57,8 +57,8 @@ impl<C: Controller> Running<C> {
         publishes(self.ctl.kind())
     }
 
-    /// It takes its mail, where there is some, and then computes, from the states that it reads and from its references, a value for each of
-    /// its claims. After an error these are as they were. It takes no memory.
+    /// It takes its mail, where there is some, and then computes, from the states that it reads and from its
+    /// references, a value for each of its claims. After an error these are as they were. It takes no memory.
     #[tactic(auto, using(cm_slots::proofs::StepLemmas::can_be_updated_once_taken, cm_slots::proofs::StepLemmas::step_is, cm_slots::proofs::StepLemmas::kept_once_stepped, cm_slots::proofs::StepLemmas::published_is, cm_slots::proofs::StepLemmas::erred_gives_none))]
     pub(crate) fn update(
         &mut self,

@@ -20,9 +20,10 @@ use fixed_num::{Fx, Memory, Value};
 use std::alloc::Global;
 use std::marker::Model;
 
-/// Where a controller stands while it is updated: the number of its load, its place in the description, in how many cycles it is updated
-/// once, and its own room for what it reads, for its references and for what it gives out. It stays when the box leaves. The room stands
-/// behind one pointer, because a workspace moves to its cell and back in each cycle. Contracts see it as `WorkspaceFacts`.
+/// Where a controller stands while it is updated: the number of its load, its place in the description, in how many
+/// cycles it is updated once, and its own room for what it reads, for its references and for what it gives out. It
+/// stays when the box leaves. The room stands behind one pointer, because a workspace moves to its cell and back in
+/// each cycle. Contracts see it as `WorkspaceFacts`.
 #[derive(Debug, Drop)]
 pub struct Workspace {
     pub(crate) serial: u32,
@@ -93,7 +94,8 @@ impl Workspace {
         Workspace { serial, ..self }
     }
 
-    /// Whether it has just the room that its controller needs. What stands in it counts for nothing: it is read anew before an update.
+    /// Whether it has just the room that its controller needs. What stands in it counts for nothing: it is read anew
+    /// before an update.
     pub fn is_fitted(&self, places: &CtlPlaces) -> bool
         requires { HasRows places.now self.now.place }
         ensures { result ≡ is_fitted places.now self.now }
@@ -132,7 +134,8 @@ impl Workspace {
         );
     }
 
-    /// The controller takes its mail and is updated from what was read; what it gives out stands here, unless it failed. It takes no memory.
+    /// The controller takes its mail and is updated from what was read; what it gives out stands here, unless it
+    /// failed. It takes no memory.
     pub(crate) fn step<C: Controller>(
         &mut self,
         running: &mut Running<C>,
@@ -175,7 +178,8 @@ impl Workspace {
         }
     }
 
-    /// The update is told of, with what it gave out, unless it failed, and with what was read, where the controller publishes that.
+    /// The update is told of, with what it gave out, unless it failed, and with what was read, where the controller
+    /// publishes that.
     pub(crate) fn tell(&self, publishes: bool, done: Done, ran: &mut RanRoom)
         requires { CanTellOf self.now publishes ran.old }
         ensures rans { ran.new.rans ≡ ran.old.rans ++ told_of self.now publishes done ∷ [] }

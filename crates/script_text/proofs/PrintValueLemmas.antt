@@ -1,5 +1,6 @@
 -- The words that names, whole numbers and values print as, and that they read back.
-use Rattle.std.proofs.Common.{◌≡◌, ℕ, zero, suc, ◌-◌, ◌/◌, ◌%◌, ◌<◌, ◌≤◌, ◌^◌, true, false, List, [], ◌∷◌, ◌++◌, length, replicate, Some, Ok, ℤ, pos, negsuc, nat_abs, inl, inr, refl, arith, length-append}
+use Rattle.std.proofs.Common.{◌≡◌, ℕ, zero, suc, ◌-◌, ◌/◌, ◌%◌, ◌<◌, ◌≤◌, ◌^◌, true, false, List, [], ◌∷◌, ◌++◌, length}
+use Rattle.std.proofs.Common.{replicate, Some, Ok, ℤ, pos, negsuc, nat_abs, inl, inr, refl, arith, length-append}
 use Rattle.std.specs.Prelude.{nat_le, ◌==◌}
 use Rattle.std.specs.List.{AllByRecursion, list_all}
 use Rattle.std.specs.Char.{is_ascii_digit}
@@ -29,17 +30,26 @@ IsShown-append (x ∷ xs) ys p q = (p.0, IsShown-append xs ys p.1 q)
 
 digits_IsShown : (ds : List ℕ) → all_ascii_digits ds ≡ true → IsShown ds
 digits_IsShown [] h = tt
-digits_IsShown (d ∷ ds) h = let both = and_parts (is_ascii_digit d) (all_ascii_digits ds) h in (grind (arith, nat_tests, both.0), digits_IsShown ds both.1)
+digits_IsShown (d ∷ ds) h =
+    let both = and_parts (is_ascii_digit d) (all_ascii_digits ds) h in
+    (grind (arith, nat_tests, both.0), digits_IsShown ds both.1)
 
 -- ---- Names
 
 name_bytes_IsShown : (bs : List ℕ) → list_all is_name_byte bs ≡ true → IsShown bs
 name_bytes_IsShown [] h = tt
-name_bytes_IsShown (b ∷ bs) h = let both = and_parts (is_name_byte b) (list_all is_name_byte bs) h in (grind (arith, nat_tests, both.0), name_bytes_IsShown bs both.1)
+name_bytes_IsShown (b ∷ bs) h =
+    let both = and_parts (is_name_byte b) (list_all is_name_byte bs) h in
+    (grind (arith, nat_tests, both.0), name_bytes_IsShown bs both.1)
 
 pub name_IsWord : (name : List ℕ) → IsName name → IsWord name
 name_IsWord [] h = cc
-name_IsWord (b ∷ bs) h = record { some = omega arith; shown = name_bytes_IsShown (b ∷ bs) (and_parts _ (list_all is_name_byte (b ∷ bs)) h).1 }
+name_IsWord (b ∷ bs) h =
+    record {
+      some = omega arith;
+      shown =
+          name_bytes_IsShown (b ∷ bs) (and_parts _ (list_all is_name_byte (b ∷ bs)) h).1;
+    }
 
 pub name_short : (name : List ℕ) → IsName name → length name ≤ 64
 name_short [] h = omega arith
@@ -55,16 +65,23 @@ name_reads name h = rw h refl
 
 digits_test : (ds : List ℕ) → all_ascii_digits ds ≡ true → list_all is_ascii_digit ds ≡ true
 digits_test [] h = refl
-digits_test (d ∷ ds) h = let both = and_parts (is_ascii_digit d) (all_ascii_digits ds) h in and_from _ _ both.0 (digits_test ds both.1)
+digits_test (d ∷ ds) h =
+    let both = and_parts (is_ascii_digit d) (all_ascii_digits ds) h in and_from _ _ both.0 (digits_test ds both.1)
 
 pub whole_IsWord : (n : ℕ) → n ≤ 999999999 → IsWord (decimal n)
-whole_IsWord n small = record { some = decimal_nonempty n (omega arith); shown = digits_IsShown (decimal n) (digits_decimal own n (omega arith)) }
+whole_IsWord n small =
+    record {
+      some = decimal_nonempty n (omega arith);
+      shown =
+          digits_IsShown (decimal n) (digits_decimal own n (omega arith));
+    }
 
 pub whole_short : (n : ℕ) → n ≤ 999999999 → length (decimal n) ≤ 9
 whole_short n small = length-decimal-le 9 n (omega arith) (omega arith) (omega arith)
 
 -- digits of a length from 1 to 9 are a whole number
-digits_read : (ds : List ℕ) (n : ℕ) → 0 < length ds → length ds ≤ 9 → list_all is_ascii_digit ds ≡ true → digits_value 10 ds ≡ n → whole_word ds ≡ Some n
+digits_read : (ds : List ℕ) (n : ℕ) → 0 < length ds → length ds ≤ 9 → list_all is_ascii_digit ds ≡ true
+    → digits_value 10 ds ≡ n → whole_word ds ≡ Some n
 digits_read ds n some few all value =
     let a : nat_le 1 (length ds) ≡ true = grind (arith, nat_tests) in
     let b : nat_le (length ds) 9 ≡ true = grind (arith, nat_tests) in
@@ -101,7 +118,9 @@ value_IsWord v h =
     let small = range_size v h in
     let w = nat_abs v / 1000000 in
     let p = nat_abs v % 1000000 in
-    let six : IsShown (six_digits p) = IsShown-append (replicate (6 - length (decimal p)) 48) (decimal p) (zeros_IsShown _) (decimal_IsShown p (omega arith)) in
+    let six : IsShown (six_digits p) =
+    IsShown-append (replicate (6 - length (decimal p)) 48) (decimal p) (zeros_IsShown _)
+    (decimal_IsShown p (omega arith)) in
     let front = IsShown-append (sign_text v) (decimal w) (sign_IsShown v) (decimal_IsShown w (omega arith)) in
     let point = IsShown-append (sign_text v ++ decimal w) (46 ∷ []) front (omega arith, tt) in
     let all = IsShown-append ((sign_text v ++ decimal w) ++ 46 ∷ []) (six_digits p) point six in

@@ -1,5 +1,7 @@
--- Words parted by single spaces are the words of their line, and lines with a feed behind each are the lines of their text.
-use Rattle.std.proofs.Common.{◌≡◌, ℕ, suc, ◌+◌, ◌*◌, ◌<◌, ◌≤◌, false, List, [], ◌∷◌, ◌++◌, length, Ok, refl, ap, ◌∙◌, arith, append_assoc, length-append}
+-- Words parted by single spaces are the words of their line, and lines with a feed behind each are the lines of their
+-- text.
+use Rattle.std.proofs.Common.{◌≡◌, ℕ, suc, ◌+◌, ◌*◌, ◌<◌, ◌≤◌, false, List, [], ◌∷◌, ◌++◌}
+use Rattle.std.proofs.Common.{length, Ok, refl, ap, ◌∙◌, arith, append_assoc, length-append}
 use Rattle.std.specs.Prelude.{flat_map, nat_lt, ◌==◌}
 use Rattle.std.specs.List.{AllByRecursion, onto_first, slice_split}
 use Rattle.std.proofs.lemmas.Bool.{le-ltb}
@@ -31,7 +33,8 @@ not_blank : (b : ℕ) → 32 < b → is_blank b ≡ false
 not_blank b h = grind (arith, nat_tests)
 
 -- a word before a space is a part of the text
-word_then : (word rest : List ℕ) → AllByRecursion (λ b. 32 < b) word → slice_split is_blank (word ++ 32 ∷ rest) ≡ word ∷ slice_split is_blank rest
+word_then : (word rest : List ℕ) → AllByRecursion (λ b. 32 < b) word
+    → slice_split is_blank (word ++ 32 ∷ rest) ≡ word ∷ slice_split is_blank rest
 word_then [] rest shown = refl
 word_then (b ∷ bs) rest shown = rw (not_blank b shown.0, word_then bs rest shown.1) refl
 
@@ -41,14 +44,18 @@ word_alone [] shown = refl
 word_alone (b ∷ bs) shown = rw (not_blank b shown.0, word_alone bs shown.1) refl
 
 -- words parted by single spaces
-pub words_spaced : (word : List ℕ) (ws : List (List ℕ)) → IsWord word → AllByRecursion IsWord ws → words (word ++ spaced ws) ≡ word ∷ ws
+pub words_spaced : (word : List ℕ) (ws : List (List ℕ)) → IsWord word → AllByRecursion IsWord ws
+    → words (word ++ spaced ws) ≡ word ∷ ws
 words_spaced word [] one more = rw (append-nil, word_alone word one.shown, not_empty word one.some) refl
-words_spaced word (w ∷ ws) one more = rw (word_then word (w ++ spaced ws) one.shown, not_empty word one.some) (ap (λ ws. word ∷ ws) (words_spaced w ws more.0 more.1))
+words_spaced word (w ∷ ws) one more =
+    rw (word_then word (w ++ spaced ws) one.shown, not_empty word one.some)
+    (ap (λ ws. word ∷ ws) (words_spaced w ws more.0 more.1))
 
 -- ---- Lines
 
 -- a printed line ends at its feed
-pub line_then : (line rest : List ℕ) → IsPrinted line → raw_lines (line ++ 10 ∷ rest) ≡ (line ++ 10 ∷ []) ∷ raw_lines rest
+pub line_then : (line rest : List ℕ) → IsPrinted line
+    → raw_lines (line ++ 10 ∷ rest) ≡ (line ++ 10 ∷ []) ∷ raw_lines rest
 line_then [] rest printed = refl
 line_then (b ∷ bs) rest printed =
     let inside : (b == 10) ≡ false = grind (arith, nat_tests, printed.0) in
@@ -81,20 +88,24 @@ shown_IsPrinted (b ∷ bs) shown = (omega (arith, shown.0), shown_IsPrinted bs s
 
 pub spaced_IsPrinted : (ws : List (List ℕ)) → AllByRecursion IsWord ws → IsPrinted (spaced ws)
 spaced_IsPrinted [] all = tt
-spaced_IsPrinted (w ∷ ws) all = (omega arith, IsPrinted-append w (spaced ws) (shown_IsPrinted w all.0.shown) (spaced_IsPrinted ws all.1))
+spaced_IsPrinted (w ∷ ws) all =
+    (omega arith, IsPrinted-append w (spaced ws) (shown_IsPrinted w all.0.shown) (spaced_IsPrinted ws all.1))
 
 -- ---- Reading
 
 -- reading this text leads from what stands before it to what stands behind it, whatever text follows
 abbrev pub Reads : Grammar → List ℕ → Draft → Draft → Type 0
-Reads grammar text before behind = (n : ℕ) (rest : List ℕ) → (m : ℕ) × (with_lines grammar n before (raw_lines (text ++ rest)) ≡ with_lines grammar m behind (raw_lines rest))
+Reads grammar text before behind =
+    (n : ℕ) (rest : List ℕ)
+    → (m : ℕ) × (with_lines grammar n before (raw_lines (text ++ rest)) ≡ with_lines grammar m behind (raw_lines rest))
 
 -- no text leads nowhere
 pub Reads-nil : (grammar : Grammar) (w : Draft) → Reads grammar [] w w
 Reads-nil grammar w = λ n rest. (n, refl)
 
 -- one text after another
-pub Reads-append : (grammar : Grammar) (xs ys : List ℕ) (a b c : Draft) → Reads grammar xs a b → Reads grammar ys b c → Reads grammar (xs ++ ys) a c
+pub Reads-append : (grammar : Grammar) (xs ys : List ℕ) (a b c : Draft) → Reads grammar xs a b → Reads grammar ys b c
+    → Reads grammar (xs ++ ys) a c
 Reads-append grammar xs ys a b c f g = λ n rest.
     let first = f n (ys ++ rest) in
     let second = g first.0 rest in
@@ -108,20 +119,26 @@ pub record IsLine (word : List ℕ) (ws : List (List ℕ)) : Type 0 where
   pub short : length (word ++ spaced ws) ≤ 65536
 
 line_read : (grammar : Grammar) (n : ℕ) (word : List ℕ) (ws : List (List ℕ)) (before : Draft) → IsLine word ws
-    → with_line grammar n before ((word ++ spaced ws) ++ 10 ∷ []) ≡ with_said grammar n before (line_of grammar (word ∷ ws))
+    → with_line grammar n before ((word ++ spaced ws) ++ 10 ∷ [])
+    ≡ with_said grammar n before (line_of grammar (word ∷ ws))
 unfolding with_line
 line_read grammar n word ws before line =
-    let printed = IsPrinted-append word (spaced ws) (shown_IsPrinted word line.first.shown) (spaced_IsPrinted ws line.others) in
-    let fits : nat_lt 65536 (length (word ++ spaced ws)) ≡ false = le-ltb 65536 (length (word ++ spaced ws)) line.short in
+    let printed =
+    IsPrinted-append word (spaced ws) (shown_IsPrinted word line.first.shown) (spaced_IsPrinted ws line.others) in
+    let fits : nat_lt 65536 (length (word ++ spaced ws)) ≡ false =
+    le-ltb 65536 (length (word ++ spaced ws)) line.short in
     rw (bare_line (word ++ spaced ws) printed, words_spaced word ws line.first line.others, line.said, fits) refl
 
 -- reading a line is what it says
 pub Reads-line : (grammar : Grammar) (word : List ℕ) (ws : List (List ℕ)) (before behind : Draft) → IsLine word ws
-    → ((n : ℕ) → with_said grammar n before (line_of grammar (word ∷ ws)) ≡ Ok behind) → Reads grammar ((word ++ spaced ws) ++ 10 ∷ []) before behind
+    → ((n : ℕ) → with_said grammar n before (line_of grammar (word ∷ ws)) ≡ Ok behind)
+    → Reads grammar ((word ++ spaced ws) ++ 10 ∷ []) before behind
 Reads-line grammar word ws before behind line says = λ n rest.
     let text = word ++ spaced ws in
-    let printed = IsPrinted-append word (spaced ws) (shown_IsPrinted word line.first.shown) (spaced_IsPrinted ws line.others) in
-    let read : with_line grammar n before (text ++ 10 ∷ []) ≡ Ok behind = line_read grammar n word ws before line ∙ says n in (
+    let printed =
+    IsPrinted-append word (spaced ws) (shown_IsPrinted word line.first.shown) (spaced_IsPrinted ws line.others) in
+    let read : with_line grammar n before (text ++ 10 ∷ []) ≡ Ok behind =
+    line_read grammar n word ws before line ∙ says n in (
       n + 1,
       ap (λ t. with_lines grammar n before (raw_lines t)) (append_assoc text (10 ∷ []) rest)
           ∙ ap (with_lines grammar n before) (line_then text rest printed)
@@ -131,7 +148,8 @@ Reads-line grammar word ws before behind line says = λ n rest.
 -- ---- Length
 
 -- so many words of at most so many bytes
-pub spaced_long : (k : ℕ) (ws : List (List ℕ)) → AllByRecursion (λ w. length w ≤ k) ws → length (spaced ws) ≤ length ws * suc k
+pub spaced_long : (k : ℕ) (ws : List (List ℕ)) → AllByRecursion (λ w. length w ≤ k) ws
+    → length (spaced ws) ≤ length ws * suc k
 spaced_long k [] all = omega arith
 spaced_long k (w ∷ ws) all =
     let more = spaced_long k ws all.1 in

@@ -10,8 +10,11 @@ use Rattle.sequence.specs.Last.{in_last}
 use Rattle.sequence.proofs.ListLemmas.{not_empty, length_in_last}
 
 -- a new session has no calls
-pub new_session : (sessions : List SessionText) (name : List ℕ) → sum_by (λ t. length t.lines) (sessions ++ record { name = name; lines = [] } ∷ []) ≡ sum_by (λ t. length t.lines) sessions
-new_session sessions name = let sum = sum_by_push (λ t. length t.lines) sessions (record { name = name; lines = [] }) in omega arith
+pub new_session : (sessions : List SessionText) (name : List ℕ)
+    → sum_by (λ t. length t.lines) (sessions ++ record { name = name; lines = [] } ∷ [])
+    ≡ sum_by (λ t. length t.lines) sessions
+new_session sessions name =
+    let sum = sum_by_push (λ t. length t.lines) sessions (record { name = name; lines = [] }) in omega arith
 
 pub ruleset session_counts = (new_session)
 
@@ -31,9 +34,11 @@ count_calling made (s ∷ t ∷ sessions) some =
     omega arith
 
 -- so one more stands in all, and as many sessions
-pub calling_counts : (made : Call) (sessions more : List SessionText) (turns : Option (List Turn)) (count : ℕ) → in_last (then_calling made) sessions ≡ more → (length sessions == 0) ≡ false
+pub calling_counts : (made : Call) (sessions more : List SessionText) (turns : Option (List Turn)) (count : ℕ)
+    → in_last (then_calling made) sessions ≡ more → (length sessions == 0) ≡ false
     → calls_and_turns (script_in (record { sessions = sessions; turns = turns })) ≡ count
-    → (length more ≡ length sessions) × (calls_and_turns (script_in (record { sessions = more; turns = turns })) ≡ count + 1)
+    → (length more ≡ length sessions)
+    × (calls_and_turns (script_in (record { sessions = more; turns = turns })) ≡ count + 1)
 calling_counts made sessions more turns count is some counted =
     let one = count_calling made sessions some in
     rw (← is) (length_in_last (then_calling made) sessions, omega arith)

@@ -1,5 +1,6 @@
 -- The words of a switch, read one by one from the front.
-use Rattle.std.proofs.Common.{◌≡◌, ℕ, Bool, true, false, List, [], ◌∷◌, ◌++◌, Some, None, refl, sym, ◌∙◌, append_assoc, append-nil, inl, inr, arith}
+use Rattle.std.proofs.Common.{◌≡◌, ℕ, Bool, true, false, List, [], ◌∷◌, ◌++◌, Some, None}
+use Rattle.std.proofs.Common.{refl, sym, ◌∙◌, append_assoc, append-nil, inl, inr, arith}
 use Rattle.std.specs.Prelude.{filter_map, ◌==◌, if◌then◌else◌}
 use Rattle.std.specs.List.{list_all}
 use Rattle.std.proofs.lemmas.Bool.{cases_Bool}
@@ -30,7 +31,8 @@ not_behind_both (b ∷ bs) n h = elim (cases_Bool (b == 43)) [
 ]
 
 -- a pick to activate was read
-pub Switched_on : (on off : List Pick) (left text : List (List ℕ)) (w : List ℕ) (ws : List (List ℕ)) (n : Pick) → Switched on off left text → left ≡ w ∷ ws → behind 43 w ≡ Some n
+pub Switched_on : (on off : List Pick) (left text : List (List ℕ)) (w : List ℕ) (ws : List (List ℕ)) (n : Pick)
+    → Switched on off left text → left ≡ w ∷ ws → behind 43 w ≡ Some n
     → Switched (on ++ n ∷ []) off ws text
 Switched_on on off left text w ws n so_far cut is =
     let other : behind 45 w ≡ None = not_behind_both w n is in
@@ -41,7 +43,8 @@ Switched_on on off left text w ws n so_far cut is =
     }
 
 -- a pick to deactivate was read
-pub Switched_off : (on off : List Pick) (left text : List (List ℕ)) (w : List ℕ) (ws : List (List ℕ)) (n : Pick) → Switched on off left text → left ≡ w ∷ ws → behind 43 w ≡ None → behind 45 w ≡ Some n
+pub Switched_off : (on off : List Pick) (left text : List (List ℕ)) (w : List ℕ) (ws : List (List ℕ)) (n : Pick)
+    → Switched on off left text → left ≡ w ∷ ws → behind 43 w ≡ None → behind 45 w ≡ Some n
     → Switched on (off ++ n ∷ []) ws text
 Switched_off on off left text w ws n so_far cut other is = record {
   signed = (rw (cut, other, is) refl) ∙ so_far.signed;
@@ -50,7 +53,8 @@ Switched_off on off left text w ws n so_far cut other is = record {
 }
 
 -- all words were read
-pub Switched_end : (strict : Bool) (on off : List Pick) (left text : List (List ℕ)) → Switched on off left text → left ≡ [] → switch_in (Some strict) text ≡ Some (record { on = on; off = off; strict = strict })
+pub Switched_end : (strict : Bool) (on off : List Pick) (left text : List (List ℕ)) → Switched on off left text
+    → left ≡ [] → switch_in (Some strict) text ≡ Some (record { on = on; off = off; strict = strict })
 Switched_end strict on off left text so_far cut =
     let all : list_all is_signed text ≡ true = sym so_far.signed ∙ rw cut refl in
     let first : filter_map (behind 43) text ≡ on = sym so_far.activated ∙ rw cut (append-nil on) in
@@ -58,7 +62,8 @@ Switched_end strict on off left text so_far cut =
     rw (all, first, second) refl
 
 -- a word without a sign was read
-pub Switched_bad : (strict : Bool) (on off : List Pick) (left text : List (List ℕ)) (w : List ℕ) (ws : List (List ℕ)) → Switched on off left text → left ≡ w ∷ ws → behind 43 w ≡ None → behind 45 w ≡ None
+pub Switched_bad : (strict : Bool) (on off : List Pick) (left text : List (List ℕ)) (w : List ℕ) (ws : List (List ℕ))
+    → Switched on off left text → left ≡ w ∷ ws → behind 43 w ≡ None → behind 45 w ≡ None
     → switch_in (Some strict) text ≡ None
 Switched_bad strict on off left text w ws so_far cut first second =
     let none : list_all is_signed text ≡ false = sym so_far.signed ∙ rw (cut, first, second) refl in

@@ -1,5 +1,6 @@
-//! Scripts as text, both ways: the script that a text is, or its first bad line; and a script in its one spelling, which reads back.
-//! What each line says and which rules hold stands in `cm_document`, in `LineGrammar`, `ScriptRules` and `ScriptLaws`.
+//! Scripts as text, both ways: the script that a text is, or its first bad line; and a script in its one spelling,
+//! which reads back. What each line says and which rules hold stands in `cm_document`, in `LineGrammar`, `ScriptRules`
+//! and `ScriptLaws`.
 #![tactic(auto)]
 
 pub use lines::{bare_line, first_line};

@@ -3,7 +3,8 @@
 ghost use Rattle.std.specs.Prelude.{◌≡◌, Ok};
 ghost use Rattle.sequence.specs.Answers.{Answers};
 ghost use Rattle.cm_document.specs.Lines.{words};
-ghost use Rattle.cm_document.specs.LineGrammar.{all_words, value_word, values_in, untimed, timed, time_word, point_at, later, points_after, mail_in};
+ghost use Rattle.cm_document.specs.LineGrammar.{all_words, value_word, values_in, untimed, timed};
+ghost use Rattle.cm_document.specs.LineGrammar.{time_word, point_at, later, points_after, mail_in};
 ghost use Rattle.script_text.specs.FewWords.{one_or_more};
 
 use crate::numbers::{is_time, time, value};

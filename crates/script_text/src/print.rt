@@ -1,15 +1,16 @@
 //! How a script prints: a line for each session, call and turn.
 
 ghost use Rattle.std.specs.Prelude.{◌≡◌, ◌++◌, OnOk, IfOk, flat_map, codes, string_bytes};
-ghost use Rattle.cm_document.specs.CallText.{call_text, session_text, session_name, turn_text, schedule_text, script_text};
+ghost use Rattle.cm_document.specs.CallText.{call_text, session_text, session_name};
+ghost use Rattle.cm_document.specs.CallText.{turn_text, schedule_text, script_text};
 ghost use Rattle.cm_document.specs.ScriptLaws.{ReadsBack};
 
 use cm_document::{Call, Script, SessionText, Turn, Verb};
 use fixed_num::Memory;
 use std::alloc::Global;
 
-/// The text of a script: each session's line with its calls behind it, and `schedule` with the turns where there are some.
-/// Words are parted by single spaces, numbers have one spelling, and a switch names those to deactivate first.
+/// The text of a script: each session's line with its calls behind it, and `schedule` with the turns where there are
+/// some. Words are parted by single spaces, numbers have one spelling, and a switch names those to deactivate first.
 #[tactic(auto, using(crate::proofs::PrintScriptLemmas::printed_reads_back))]
 pub fn print_script(alloc: Global, script: &Script) -> Result<Vec<u8>, Memory>
     ensures printed { IfOk result (λ text. text.items ≡ script_text script.now) }

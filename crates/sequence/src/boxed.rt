@@ -5,7 +5,8 @@ ghost use Rattle.std.specs.Prelude.{◌≡◌, IfOk};
 use std::alloc::{AllocError, Global};
 use std::marker::Model;
 
-/// One value on the heap, eight bytes where it stands. It keeps a rare large part of a type from making every value of it large.
+/// One value on the heap, eight bytes where it stands. It keeps a rare large part of a type from making every value of
+/// it large.
 #[derive(Debug, Drop)]
 pub struct Boxed<T> {
     inner: Box<T>,

@@ -6,8 +6,8 @@ use std::alloc::{AllocError, Global};
 use std::marker::Model;
 use std::sync::Arc;
 
-/// A list with many holders that is empty nearly always: sixteen bytes at each, and none on the heap while it is empty. A
-/// clone takes no memory. Contracts see the list.
+/// A list with many holders that is empty nearly always: sixteen bytes at each, and none on the heap while it is empty.
+/// A clone takes no memory. Contracts see the list.
 #[derive(Debug, Drop)]
 pub struct SharedList<T> {
     items: Option<Arc<Vec<T>>>,

@@ -1,5 +1,6 @@
 -- Fallbacks are told of by the begin behind an end that owes them, and by no other call.
-use Rattle.std.proofs.Common.{◌≡◌, ℕ, Bool, true, false, List, [], ◌∷◌, ◌++◌, length, map, cond, Some, None, refl, sym, ◌∙◌, subst, ap}
+use Rattle.std.proofs.Common.{◌≡◌, ℕ, Bool, true, false, List, [], ◌∷◌, ◌++◌, length}
+use Rattle.std.proofs.Common.{map, cond, Some, None, refl, sym, ◌∙◌, subst, ap}
 use Rattle.std.specs.Prelude.{◌==◌, not, filter, flat_map, Option}
 use Rattle.std.proofs.Math.Dec.{eqb-suc-zero}
 use Rattle.std.proofs.lemmas.Option.{same_Some}
@@ -8,7 +9,10 @@ use Rattle.cm_document.specs.declared.call.Call.TheVariants.{Begin, End, Close}
 use Rattle.cm_document.specs.declared.life.Life.{Life}
 use Rattle.cm_model.proofs.StayLemmas.{IsStep}
 use Rattle.cm_model.specs.BestEffort.{decided}
-use Rattle.cm_model.specs.Boundary.{waiting, standing_in, after_standing_in, after_fallbacks, told_of_fallbacks, with_switch, component_place, move_fault, with_move_unless, with_move, concluded, with_outcome, all_concluded, boundary, decisions_between, begin_effect, begin_reply, close_effect, close_reply}
+use Rattle.cm_model.specs.Boundary.{waiting, standing_in, after_standing_in, after_fallbacks, told_of_fallbacks}
+use Rattle.cm_model.specs.Boundary.{with_switch, component_place, move_fault, with_move_unless, with_move}
+use Rattle.cm_model.specs.Boundary.{concluded, with_outcome, all_concluded, boundary, decisions_between}
+use Rattle.cm_model.specs.Boundary.{begin_effect, begin_reply, close_effect, close_reply}
 use Rattle.cm_model.specs.Commit.{scene_of, commit}
 use Rattle.cm_model.specs.Cycle.{is_error, fallbacks_of, fallbacks_after, cycle, after_cycle}
 use Rattle.cm_model.specs.Machine.{LegalFrom}
@@ -42,17 +46,20 @@ unfolding commit
 switch_keeps s (refused because) = refl
 switch_keeps s (done dropped set again) = refl
 
-move_keeps : (s : State) (name : List ℕ) (component : ℕ) (target : Life) (o : Option Cause) → (with_move_unless s name component target o).state.fallbacks ≡ s.fallbacks
+move_keeps : (s : State) (name : List ℕ) (component : ℕ) (target : Life) (o : Option Cause)
+    → (with_move_unless s name component target o).state.fallbacks ≡ s.fallbacks
 move_keeps s name component target None = refl
 move_keeps s name component target (Some c) = refl
 
-place_keeps : (s : State) (name : List ℕ) (target : Life) (o : Option ℕ) → (with_move s name target o).state.fallbacks ≡ s.fallbacks
+place_keeps : (s : State) (name : List ℕ) (target : Life) (o : Option ℕ)
+    → (with_move s name target o).state.fallbacks ≡ s.fallbacks
 place_keeps s name target None = refl
 place_keeps s name target (Some component) = move_keeps s name component target (move_fault s component target)
 
 concluded_leaves : (s : State) (r : Request) → (concluded s r).state.fallbacks ≡ s.fallbacks
 concluded_leaves s (request.Switch r) = switch_keeps s (decided (scene_of s) r)
-concluded_leaves s (request.Hardware component target) = place_keeps s component target (component_place s.description component)
+concluded_leaves s (request.Hardware component target) =
+    place_keeps s component target (component_place s.description component)
 
 all_leave : (s : State) (rs : List Request) → (all_concluded s rs).fallbacks ≡ s.fallbacks
 unfolding all_concluded
@@ -70,21 +77,28 @@ begin_leaves_none s = all_leave (after_fallbacks s) (waiting (after_fallbacks s)
 -- ---- What is told of them
 
 -- a begin tells of them first, where there are some
-led : (s : State) (names : List (List ℕ)) (ds : List Decision) → ticketed ds ≡ ds → IsLed (some_of names) (told_of_fallbacks s names ++ ds)
+led : (s : State) (names : List (List ℕ)) (ds : List Decision) → ticketed ds ≡ ds
+    → IsLed (some_of names) (told_of_fallbacks s names ++ ds)
 led s [] ds all = all
 led s (name ∷ names) ds all =
-    subst (λ (b : Bool). IsLed b (told_of_fallbacks s (name ∷ names) ++ ds)) (sym (some_cons name names)) (refl, (_, refl), all)
+    subst (λ (b : Bool). IsLed b (told_of_fallbacks s (name ∷ names) ++ ds)) (sym (some_cons name names))
+    (refl, (_, refl), all)
 
 -- ---- Which ends owe them
 
 -- those are to stand in after a cycle that its record calls for
-owes : (s : State) (ran : List Ran) → flat_map (λ (one : Ran). cond (is_error one.done) (fallbacks_of s one.serial) []) ran ≡ fallbacks_after s ran
+owes : (s : State) (ran : List Ran)
+    → flat_map (λ (one : Ran). cond (is_error one.done) (fallbacks_of s one.serial) []) ran ≡ fallbacks_after s ran
 owes s [] = refl
 owes s (one ∷ ran) =
     ap (λ (names : List (List ℕ)). cond (is_error one.done) (fallbacks_of s one.serial) [] ++ names) (owes s ran)
     ∙ sym (erred_case (is_error one.done))
   where
-    erred_case : (failed : Bool) → flat_map (fallbacks_of s) (map (λ (each : Ran). each.serial) (cond failed (one ∷ filter (λ (each : Ran). is_error each.done) ran) (filter (λ (each : Ran). is_error each.done) ran)))
+    erred_case : (failed : Bool)
+        → flat_map (fallbacks_of s)
+        (map (λ (each : Ran). each.serial)
+        (cond failed (one ∷ filter (λ (each : Ran). is_error each.done) ran)
+        (filter (λ (each : Ran). is_error each.done) ran)))
         ≡ cond failed (fallbacks_of s one.serial) [] ++ fallbacks_after s ran
     erred_case true = refl
     erred_case false = refl
@@ -101,7 +115,8 @@ none_led r none = subst (λ (ds : List Decision). ticketed ds ≡ ds) (sym none)
 
 module _ (s : State) (made : State × Reply) (owed : List (List ℕ)) (is_owed : owed ≡ s.fallbacks) where
   -- each call tells of them where they are owed
-  led_at : (call : Call) → IsStep s call made → (IsPlain call → decisions_in made.1 ≡ []) → IsLedAt owed (moment_of s call made) call
+  led_at : (call : Call) → IsStep s call made → (IsPlain call → decisions_in made.1 ≡ [])
+      → IsLedAt owed (moment_of s call made) call
   led_at (Begin number) is none = (
     sym is_owed,
     subst (λ (answer : Reply). IsLed (some_of owed) (decisions_in answer)) (same_Some (begin_reply s) made.1 is.replied)
@@ -109,17 +124,21 @@ module _ (s : State) (made : State × Reply) (owed : List (List ℕ)) (is_owed :
         (led s s.fallbacks (decisions_between s (boundary s)) (between_ticketed s (boundary s)))),
   )
   led_at (End number) is none =
-      subst (λ (answer : Reply). ticketed (decisions_in answer) ≡ decisions_in answer) (same_Some (reply.Cycle (cycle s).happened) made.1 is.replied) refl
+      subst (λ (answer : Reply). ticketed (decisions_in answer) ≡ decisions_in answer)
+      (same_Some (reply.Cycle (cycle s).happened) made.1 is.replied) refl
   led_at Close is none =
-      subst (λ (answer : Reply). ticketed (decisions_in answer) ≡ decisions_in answer) (same_Some (close_reply s) made.1 is.replied) (between_ticketed s (close_effect s))
+      subst (λ (answer : Reply). ticketed (decisions_in answer) ≡ decisions_in answer)
+      (same_Some (close_reply s) made.1 is.replied) (between_ticketed s (close_effect s))
   led_at _ is none = none_led made.1 (none tt)
 
   -- and after it those are owed that are to stand in
-  owed_then : (call : Call) → IsStep s call made → (IsPlain call → made.0.fallbacks ≡ s.fallbacks) → owed_after owed (moment_of s call made) call ≡ made.0.fallbacks
+  owed_then : (call : Call) → IsStep s call made → (IsPlain call → made.0.fallbacks ≡ s.fallbacks)
+      → owed_after owed (moment_of s call made) call ≡ made.0.fallbacks
   unfolding after_cycle commit
   owed_then (Begin number) is stays = sym (ap (λ (t : State). t.fallbacks) is.next ∙ begin_leaves_none s)
   owed_then (End number) is stays =
-      subst (λ (answer : Reply). called_for s answer ≡ made.0.fallbacks) (same_Some (reply.Cycle (cycle s).happened) made.1 is.replied)
+      subst (λ (answer : Reply). called_for s answer ≡ made.0.fallbacks)
+      (same_Some (reply.Cycle (cycle s).happened) made.1 is.replied)
       (owes s (cycle s).happened.ran ∙ sym (ap (λ (t : State). t.fallbacks) is.next))
   owed_then Close is stays = is_owed ∙ sym (ap (λ (t : State). t.fallbacks) is.next)
   owed_then _ is stays = is_owed ∙ sym (stays tt)
@@ -129,12 +148,16 @@ module _ (s : State) (made : State × Reply) (owed : List (List ℕ)) (is_owed :
   led_now call is = led_at call is (λ plain. none_told s call made.1 (never_decides call plain) is.replied)
 
   owed_now : (call : Call) → IsStep s call made → owed_after owed (moment_of s call made) call ≡ made.0.fallbacks
-  owed_now call is = owed_then call is (λ plain. ap (λ (t : State). t.fallbacks) is.next ∙ (plain_stays s call made.1 plain).fallbacks)
+  owed_now call is =
+      owed_then call is (λ plain. ap (λ (t : State). t.fallbacks) is.next ∙ (plain_stays s call made.1 plain).fallbacks)
 
 -- Along each legal history fallbacks are asked for where they are owed, and no others.
-pub led_from : (s : State) (owed : List (List ℕ)) (history : List Entry) → owed ≡ s.fallbacks → LegalFrom s history → LedFrom owed (moments s history)
+pub led_from : (s : State) (owed : List (List ℕ)) (history : List Entry) → owed ≡ s.fallbacks → LegalFrom s history
+    → LedFrom owed (moments s history)
 led_from s owed [] is_owed legal = tt
 led_from s owed (e ∷ es) is_owed legal =
     let first = legal_step s e es legal in
-    subst (LedFrom owed) (sym first.are)
-    (led_now s first.made owed is_owed e.call first.is, led_from first.made.0 _ es (owed_now s first.made owed is_owed e.call first.is) first.later)
+    subst (LedFrom owed) (sym first.are) (
+      led_now s first.made owed is_owed e.call first.is,
+      led_from first.made.0 _ es (owed_now s first.made owed is_owed e.call first.is) first.later,
+    )

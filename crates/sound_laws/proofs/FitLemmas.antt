@@ -1,5 +1,7 @@
--- When a set of controllers can run together: where those that come are without a fault beside it, and the others could run together.
-use Rattle.std.proofs.Common.{◌≡◌, ◌⊎◌, ℕ, Bool, true, false, ◌++◌, Option, Some, None, inl, inr, refl, sym, ◌∙◌, subst, ap, true≢false}
+-- When a set of controllers can run together: where those that come are without a fault beside it, and the others could
+-- run together.
+use Rattle.std.proofs.Common.{◌≡◌, ◌⊎◌, ℕ, Bool, true, false, ◌++◌, Option, Some}
+use Rattle.std.proofs.Common.{None, inl, inr, refl, sym, ◌∙◌, subst, ap, true≢false}
 use Rattle.std.specs.Prelude.{◌==◌, ◌&&◌, not, slice_index_or}
 use Rattle.std.specs.List.{Contains, list_any}
 use Rattle.std.specs.Option.{option_map_or}
@@ -13,7 +15,8 @@ use Rattle.iface_names.specs.declared.interface.IfaceName.{IfaceName}
 use Rattle.iface_names.specs.declared.interface.IfaceName.TheVariants.{Joint, Reference}
 use Rattle.cm_document.specs.declared.life.Life.TheVariants.{Unconfigured}
 use Rattle.cm_model.specs.Components.{is_available}
-use Rattle.cm_model.specs.Faults.{cause_if, is_missing, component_with, is_unavailable, rival, conflict_over, is_beside, is_mode_taken, joint_name, fault_of_kind}
+use Rattle.cm_model.specs.Faults.{cause_if, is_missing, component_with, is_unavailable, rival}
+use Rattle.cm_model.specs.Faults.{conflict_over, is_beside, is_mode_taken, joint_name, fault_of_kind}
 use Rattle.cm_model.specs.Order.{Places}
 use Rattle.cm_model.specs.Scene.{Scene, controllers_in, described, claims_at, member, order}
 use Rattle.cm_model.specs.Sound.{names_at, is_there, CanRunTogether}
@@ -35,7 +38,8 @@ and_second true b none holds = none
 and_second false b none holds = absurd (true≢false (sym holds))
 
 -- what does not fail is so, or there is nothing
-unless_fails : (f : ℕ → Bool) (o : Option ℕ) → option_map_or (λ k. not (f k)) o false ≡ false → option_map_or f o true ≡ true
+unless_fails : (f : ℕ → Bool) (o : Option ℕ) → option_map_or (λ k. not (f k)) o false ≡ false
+    → option_map_or f o true ≡ true
 unless_fails f None holds = refl
 unless_fails f (Some k) holds = not-false (f k) holds
 
@@ -44,9 +48,11 @@ beside_turned : (interface beside : IfaceName) → is_beside beside interface �
 beside_turned (Joint joint kind) (Joint joint' kind') none =
     false_from_ne_true (same_name joint joint' && not (same_kind kind kind')) (λ both.
     let parts = and_parts (same_name joint joint') (not (same_kind kind kind')) both in
-    let names : same_name joint' joint ≡ true = (bytes_eq-Decides joint' joint).1 (sym ((bytes_eq-Decides joint joint').0 parts.0)) in
+    let names : same_name joint' joint ≡ true =
+    (bytes_eq-Decides joint' joint).1 (sym ((bytes_eq-Decides joint joint').0 parts.0)) in
     let kinds : same_kind kind' kind ≡ false = false_from_ne_true (same_kind kind' kind) (λ same.
-    let e : same_kind kind kind' ≡ true = (same_kind-Decides kind kind').1 (sym ((same_kind-Decides kind' kind).0 same)) in
+    let e : same_kind kind kind' ≡ true =
+    (same_kind-Decides kind kind').1 (sym ((same_kind-Decides kind' kind).0 same)) in
     true≢false (sym parts.1 ∙ ap not e)) in
     true≢false (sym (and_from (same_name joint' joint) (not (same_kind kind' kind)) names (ap not kinds)) ∙ none))
 beside_turned (Joint joint kind) (Reference controller joint' kind') none = refl
@@ -56,11 +62,14 @@ beside_turned (Reference controller joint kind) (Reference controller' joint' ki
 -- ---- Claims
 
 -- no follower of it is missing, where that is not found to be its fault
-pub none_missing : (scene : Scene) (set on : Places) (p : ℕ) (interface : IfaceName) → fault_of_kind scene set on fault_kind.Follower p ≡ None
+pub none_missing : (scene : Scene) (set on : Places) (p : ℕ) (interface : IfaceName)
+    → fault_of_kind scene set on fault_kind.Follower p ≡ None
     → claims_at (controllers_in scene) p interface ≡ true → is_missing (controllers_in scene) set interface ≡ false
 none_missing scene set on p interface none claims =
     cause_if-none (is_missing (controllers_in scene) set interface) (cause.MissingFollower interface)
-    (first_of-none (λ interface. cause_if (is_missing (controllers_in scene) set interface) (cause.MissingFollower interface)) (described scene p).claims none interface (claims_from scene p interface claims))
+    (first_of-none
+    (λ interface. cause_if (is_missing (controllers_in scene) set interface) (cause.MissingFollower interface))
+    (described scene p).claims none interface (claims_from scene p interface claims))
 
 -- ---- A set
 
@@ -70,13 +79,15 @@ pub record IsClearOf (scene : Scene) (set on : Places) (p : ℕ) : Type 0 where
   pub conflict : fault_of_kind scene set on fault_kind.Conflict p ≡ None
   pub mode : fault_of_kind scene set on fault_kind.Mode p ≡ None
 
--- Each of a set is one of those that could run together, or was added to them without such a fault; and of none a follower is missing.
+-- Each of a set is one of those that could run together, or was added to them without such a fault; and of none a
+-- follower is missing.
 pub record IsExtended (scene : Scene) (small set added on : Places) : Type 0 where
   pub before : CanRunTogether scene.description scene.components small
   pub loaded : (p : ℕ) → set p ≡ true → list_any (λ (l : Seen). l.place == p) scene.loaded ≡ true
   pub parts : (p : ℕ) → set p ≡ true → (small p ≡ true) ⊎ (added p ≡ true)
   pub clear : (p : ℕ) → set p ≡ true → added p ≡ true → IsClearOf scene set on p
-  pub followed : (p : ℕ) (interface : IfaceName) → set p ≡ true → claims_at (controllers_in scene) p interface ≡ true → is_missing (controllers_in scene) set interface ≡ false
+  pub followed : (p : ℕ) (interface : IfaceName) → set p ≡ true → claims_at (controllers_in scene) p interface ≡ true
+      → is_missing (controllers_in scene) set interface ≡ false
 
 module _ (scene : Scene) (small set added on : Places) (extended : IsExtended scene small set added on) where
   -- the loaded controller of a member
@@ -86,43 +97,59 @@ module _ (scene : Scene) (small set added on : Places) (extended : IsExtended sc
       (r.0, r.1, eqb-true r.0.place p r.2)
 
   -- of one that was added no member is a rival
-  no_rival : (p q : ℕ) (interface : IfaceName) → set p ≡ true → added p ≡ true → set q ≡ true → claims_at (controllers_in scene) p interface ≡ true → claims_at (controllers_in scene) q interface ≡ true → q ≡ p
+  no_rival : (p q : ℕ) (interface : IfaceName) → set p ≡ true → added p ≡ true → set q ≡ true
+      → claims_at (controllers_in scene) p interface ≡ true → claims_at (controllers_in scene) q interface ≡ true
+      → q ≡ p
   no_rival p q interface inside new other claims also =
       let l = loaded_at q other in
       let none : rival scene set p interface ≡ None =
       map_none (λ (m : Member). cause.Conflict interface (described scene m.place).name) (rival scene set p interface)
-      (first_of-none (conflict_over scene set p) (described scene p).claims (extended.clear p inside new).conflict interface (claims_from scene p interface claims)) in
+      (first_of-none (conflict_over scene set p) (described scene p).claims (extended.clear p inside new).conflict
+      interface (claims_from scene p interface claims)) in
       let each : (not (l.0.place == p) && claims_at (controllers_in scene) l.0.place interface) ≡ false =
-      not_found (λ (m : Member). not (m.place == p) && claims_at (controllers_in scene) m.place interface) (order scene set) none (member l.0)
+      not_found (λ (m : Member). not (m.place == p) && claims_at (controllers_in scene) m.place interface)
+      (order scene set) none (member l.0)
       (order_from scene set l.0 l.1 (ap set l.2 ∙ other)) in
-      let here : not (l.0.place == p) ≡ false = and_first (not (l.0.place == p)) (claims_at (controllers_in scene) l.0.place interface) each (ap (λ r. claims_at (controllers_in scene) r interface) l.2 ∙ also) in
+      let here : not (l.0.place == p) ≡ false =
+      and_first (not (l.0.place == p)) (claims_at (controllers_in scene) l.0.place interface) each
+      (ap (λ r. claims_at (controllers_in scene) r interface) l.2 ∙ also) in
       sym l.2 ∙ eqb-true l.0.place p (not-false (l.0.place == p) here)
 
   -- and none claims another command interface of a joint
-  no_other_mode : (p q : ℕ) (interface beside : IfaceName) → set p ≡ true → added p ≡ true → set q ≡ true → claims_at (controllers_in scene) p interface ≡ true → claims_at (controllers_in scene) q beside ≡ true
+  no_other_mode : (p q : ℕ) (interface beside : IfaceName) → set p ≡ true → added p ≡ true → set q ≡ true
+      → claims_at (controllers_in scene) p interface ≡ true → claims_at (controllers_in scene) q beside ≡ true
       → is_beside interface beside ≡ false
   no_other_mode p q interface beside inside new other claims also =
       let l = loaded_at q other in
       let free : is_mode_taken scene set interface ≡ false =
       cause_if-none (is_mode_taken scene set interface) (cause.ModeRefused (joint_name interface))
-      (first_of-none (λ interface. cause_if (is_mode_taken scene set interface) (cause.ModeRefused (joint_name interface))) (described scene p).claims (extended.clear p inside new).mode interface (claims_from scene p interface claims)) in
+      (first_of-none
+      (λ interface. cause_if (is_mode_taken scene set interface) (cause.ModeRefused (joint_name interface)))
+      (described scene p).claims (extended.clear p inside new).mode interface (claims_from scene p interface claims)) in
       let each : (set l.0.place && list_any (is_beside interface) (described scene l.0.place).claims) ≡ false =
-      each_fails (λ (l : Seen). set l.place && list_any (is_beside interface) (described scene l.place).claims) scene.loaded free l.0 l.1 in
+      each_fails (λ (l : Seen). set l.place && list_any (is_beside interface) (described scene l.place).claims)
+      scene.loaded free l.0 l.1 in
       let none : list_any (is_beside interface) (described scene l.0.place).claims ≡ false =
-      and_second (set l.0.place) (list_any (is_beside interface) (described scene l.0.place).claims) each (ap set l.2 ∙ other) in
+      and_second (set l.0.place) (list_any (is_beside interface) (described scene l.0.place).claims) each
+      (ap set l.2 ∙ other) in
       each_fails (is_beside interface) (described scene l.0.place).claims none beside
       (subst (λ r. Contains (described scene r).claims beside) (sym l.2) (claims_from scene q beside also))
 
   -- and what it claims or reads is available
-  is_up : (p : ℕ) (interface : IfaceName) → set p ≡ true → added p ≡ true → names_at (controllers_in scene) p interface ≡ true → is_there scene.description scene.components interface ≡ true
+  is_up : (p : ℕ) (interface : IfaceName) → set p ≡ true → added p ≡ true
+      → names_at (controllers_in scene) p interface ≡ true
+      → is_there scene.description scene.components interface ≡ true
   is_up p interface inside new named =
       let names = (described scene p).claims ++ (described scene p).reads in
       let r = some_of (same_interface interface) names named in
       let up : is_unavailable scene r.0 ≡ false =
       cause_if-none (is_unavailable scene r.0) (cause.Unavailable r.0)
-      (first_of-none (λ interface. cause_if (is_unavailable scene interface) (cause.Unavailable interface)) names (extended.clear p inside new).availability r.0 r.1) in
-      subst (λ x. is_there scene.description scene.components x ≡ true) (sym ((same_interface-Decides interface r.0).0 r.2))
-      (unless_fails (λ k. is_available (slice_index_or scene.components k Unconfigured)) (component_with scene.description.components r.0) up)
+      (first_of-none (λ interface. cause_if (is_unavailable scene interface) (cause.Unavailable interface)) names
+      (extended.clear p inside new).availability r.0 r.1) in
+      subst (λ x. is_there scene.description scene.components x ≡ true)
+      (sym ((same_interface-Decides interface r.0).0 r.2))
+      (unless_fails (λ k. is_available (slice_index_or scene.components k Unconfigured))
+      (component_with scene.description.components r.0) up)
 
   -- So the set can run together.
   pub extended_together : CanRunTogether scene.description scene.components set
@@ -141,7 +168,8 @@ module _ (scene : Scene) (small set added on : Places) (extended : IsExtended sc
           | inr new ↦ no_other_mode p q interface beside inside new other claims also
           | inl old ↦
               elim (extended.parts q other) [
-                | inr new ↦ beside_turned interface beside (no_other_mode q p beside interface other new inside also claims)
+                | inr new ↦ beside_turned interface beside
+                    (no_other_mode q p beside interface other new inside also claims)
                 | inl older ↦ extended.before.one_mode p q interface beside old older claims also
               ]
         ];

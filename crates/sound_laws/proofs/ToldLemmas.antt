@@ -1,14 +1,18 @@
 -- Along each legal history what was told so far are, by ticket, the outcomes of all requests that have one.
-use Rattle.std.proofs.Common.{◌≡◌, ◌⊎◌, ℕ, List, [], ◌∷◌, ◌++◌, Option, Some, None, option_map, append-nil, inl, inr, refl, sym, ◌∙◌, subst, ap}
+use Rattle.std.proofs.Common.{◌≡◌, ◌⊎◌, ℕ, List, [], ◌∷◌, ◌++◌, Option, Some, None}
+use Rattle.std.proofs.Common.{option_map, append-nil, inl, inr, refl, sym, ◌∙◌, subst, ap}
 use Rattle.std.specs.Prelude.{slice_get}
 use Rattle.std.proofs.lemmas.Option.{same_Some}
 use Rattle.cm_document.specs.declared.call.Call.{Call}
-use Rattle.cm_document.specs.declared.call.Call.TheVariants.{Load, Configure, Cleanup, Unload, Rate, Send, Switch, Hardware, Told, Begin, End, Close}
+use Rattle.cm_document.specs.declared.call.Call.TheVariants.{Load, Configure, Cleanup, Unload, Rate, Send}
+use Rattle.cm_document.specs.declared.call.Call.TheVariants.{Switch, Hardware, Told, Begin, End, Close}
 use Rattle.cm_document.specs.declared.description.CtlDesc.{CtlDesc}
 use Rattle.cm_model.proofs.StayLemmas.{IsStep}
-use Rattle.cm_model.specs.Boundary.{request_effect, decisions_from, begin_effect, begin_reply, close_effect, close_reply}
+use Rattle.cm_model.specs.Boundary.{request_effect, decisions_from, begin_effect}
+use Rattle.cm_model.specs.Boundary.{begin_reply, close_effect, close_reply}
 use Rattle.cm_model.specs.Commit.{commit}
-use Rattle.cm_model.specs.Console.{place_of, slot_of, after_configure, after_cleanup, after_rate, after_send, where_done, with_slot, with_changed, without_slot}
+use Rattle.cm_model.specs.Console.{place_of, slot_of, after_configure, after_cleanup, after_rate}
+use Rattle.cm_model.specs.Console.{after_send, where_done, with_slot, with_changed, without_slot}
 use Rattle.cm_model.specs.Cycle.{after_cycle}
 use Rattle.cm_model.specs.Machine.{LegalFrom, reply_of, with_controller, with_loaded, load_effect, effect}
 use Rattle.cm_model.specs.Sound.{moments, decisions_in, ticketed, IsToldRightly, TicketsAreRight, TicketsFrom}
@@ -104,7 +108,8 @@ effect_stays s (Hardware component target) r never = (plain_stays s (Hardware co
 effect_stays s _ r never = refl
 
 -- and tells of no decision
-pub none_told : (s : State) (call : Call) (r : Reply) → (Decides call → ⊥) → reply_of s call ≡ Some r → decisions_in r ≡ []
+pub none_told : (s : State) (call : Call) (r : Reply) → (Decides call → ⊥) → reply_of s call ≡ Some r
+    → decisions_in r ≡ []
 none_told s call r never told = of_reply s (λ r. decisions_in r ≡ []) call (record {
   refused = λ reason. refl;
   done = refl;
@@ -127,13 +132,16 @@ module _ (s : State) (made : State × Reply) where
 
   plain_tells : (call : Call) → IsStep s call made → (Decides call → ⊥) → TellsRest
   plain_tells call is never =
-      ap (λ (ds : List Decision). decisions_from 0 s.outcomes ++ ticketed ds) (none_told s call made.1 never is.replied) ∙ append-nil (decisions_from 0 s.outcomes)
+      ap (λ (ds : List Decision). decisions_from 0 s.outcomes ++ ticketed ds) (none_told s call made.1 never is.replied)
+      ∙ append-nil (decisions_from 0 s.outcomes)
       ∙ ap (decisions_from 0) (sym (ap (λ (t : State). t.outcomes) is.next ∙ effect_stays s call made.1 never))
 
   -- with the reply that it has, and the state that it leaves
-  as_made : (r : Reply) (t : State) → r ≡ made.1 → made.0 ≡ t → decisions_from 0 s.outcomes ++ ticketed (decisions_in r) ≡ decisions_from 0 t.outcomes → TellsRest
+  as_made : (r : Reply) (t : State) → r ≡ made.1 → made.0 ≡ t
+      → decisions_from 0 s.outcomes ++ ticketed (decisions_in r) ≡ decisions_from 0 t.outcomes → TellsRest
   as_made r t same next tells =
-      ap (λ (answer : Reply). decisions_from 0 s.outcomes ++ ticketed (decisions_in answer)) (sym same) ∙ tells ∙ ap (λ (t : State). decisions_from 0 t.outcomes) (sym next)
+      ap (λ (answer : Reply). decisions_from 0 s.outcomes ++ ticketed (decisions_in answer)) (sym same) ∙ tells
+      ∙ ap (λ (t : State). decisions_from 0 t.outcomes) (sym next)
 
   deciding : (call : Call) → (Decides call) ⊎ (Decides call → ⊥)
   deciding (Begin number) = inl tt
@@ -141,8 +149,10 @@ module _ (s : State) (made : State × Reply) where
   deciding _ = inr (λ never. never)
 
   decided_tells : (call : Call) → IsStep s call made → Decides call → TellsRest
-  decided_tells (Begin number) is decides = as_made (begin_reply s) (begin_effect s) (same_Some (begin_reply s) made.1 is.replied) is.next (begin_tells s)
-  decided_tells Close is decides = as_made (close_reply s) (close_effect s) (same_Some (close_reply s) made.1 is.replied) is.next (close_tells s)
+  decided_tells (Begin number) is decides =
+      as_made (begin_reply s) (begin_effect s) (same_Some (begin_reply s) made.1 is.replied) is.next (begin_tells s)
+  decided_tells Close is decides =
+      as_made (close_reply s) (close_effect s) (same_Some (close_reply s) made.1 is.replied) is.next (close_tells s)
   decided_tells _ is decides = absurd decides
 
   tells : (call : Call) → IsStep s call made → TellsRest
@@ -160,17 +170,21 @@ module _ (s : State) (made : State × Reply) where
   call_right : (so_far : List Decision) → so_far ≡ decisions_from 0 s.outcomes → (call : Call) → IsStep s call made
       → TicketsAreRight so_far (moment_of s call made)
   call_right so_far are call is =
-      subst (λ told. TicketsAreRight told (moment_of s call made)) (sym are) (record { each_once = tells call is; told = asks call is })
+      subst (λ told. TicketsAreRight told (moment_of s call made)) (sym are)
+      (record { each_once = tells call is; told = asks call is })
 
 -- ---- Histories
 
 -- Each ticket is decided once, and told so, along each legal history.
-pub tickets_from : (s : State) (so_far : List Decision) (history : List Entry) → so_far ≡ decisions_from 0 s.outcomes → LegalFrom s history
+pub tickets_from : (s : State) (so_far : List Decision) (history : List Entry) → so_far ≡ decisions_from 0 s.outcomes
+    → LegalFrom s history
     → TicketsFrom so_far (moments s history)
 tickets_from s so_far [] are legal = tt
 tickets_from s so_far (e ∷ es) are legal =
     let first = legal_step s e es legal in
     let all : so_far ++ ticketed (decisions_in first.made.1) ≡ decisions_from 0 first.made.0.outcomes =
     ap (λ told. told ++ ticketed (decisions_in first.made.1)) are ∙ tells s first.made e.call first.is in
-    subst (TicketsFrom so_far) (sym first.are)
-    (call_right s first.made so_far are e.call first.is, tickets_from first.made.0 (so_far ++ ticketed (decisions_in first.made.1)) es all first.later)
+    subst (TicketsFrom so_far) (sym first.are) (
+      call_right s first.made so_far are e.call first.is,
+      tickets_from first.made.0 (so_far ++ ticketed (decisions_in first.made.1)) es all first.later,
+    )

@@ -19,7 +19,8 @@ pub record IsChecked (d : Description) : Type 0 where
   -- and so do references,
   pub references : IsDistinct same_interface (references_of d.controllers)
   -- what a controller reads is a state interface,
-  pub reads : (p : ℕ) (interface : IfaceName) → is_among interface (controller_at d.controllers p).reads ≡ true → is_among interface (states_of d.components) ≡ true
+  pub reads : (p : ℕ) (interface : IfaceName) → is_among interface (controller_at d.controllers p).reads ≡ true
+      → is_among interface (states_of d.components) ≡ true
   -- and no controller precedes itself at some distance.
   pub free : first_in_loop d.controllers ≡ None
 
@@ -30,6 +31,7 @@ valid-IsChecked d ok =
       joints = parts.names.joints;
       references = parts.names.references;
       reads = λ p interface read.
-          among_all (λ name. is_among name (states_of d.components) ≡ true) (controller_at d.controllers p).reads (links_of_valid d ok p).read interface read;
+          among_all (λ name. is_among name (states_of d.components) ≡ true) (controller_at d.controllers p).reads
+          (links_of_valid d ok p).read interface read;
       free = parts.loop_free;
     }

@@ -5,7 +5,8 @@ ghost use Rattle.cm_document.specs.Valid.{IsValid};
 ghost use Rattle.cm_document.specs.declared.call.Call.{Call};
 ghost use Rattle.cm_document.specs.declared.description.Description.{Description};
 ghost use Rattle.cm_model.specs.Machine.{step, IsLegal};
-ghost use Rattle.cm_model.specs.Sound.{moments, LoansAlwaysHold, EachDueOneRunsOnce, OneConfigurationEach, RequestsAreDecidedOnce, UnloadsLeaveNothing, IsSound};
+ghost use Rattle.cm_model.specs.Sound.{moments, LoansAlwaysHold, EachDueOneRunsOnce, OneConfigurationEach};
+ghost use Rattle.cm_model.specs.Sound.{RequestsAreDecidedOnce, UnloadsLeaveNothing, IsSound};
 ghost use Rattle.cm_model.specs.State.{State, boot};
 ghost use Rattle.cm_model.specs.Steady.{IsSteady};
 ghost use Rattle.cm_model.specs.declared.blanks.Blanks.{Blanks};
@@ -36,14 +37,15 @@ pub fn one_configuration_holds_in_each_cycle()
         → IsLegal d blanks sessions history → OneConfigurationEach (moments (boot d blanks sessions) history) }
 {}
 
-/// In a legal history of a valid description each request is decided once, and told so, and each begin does a strict switch whole or
-/// not at all, with a cause that is true.
+/// In a legal history of a valid description each request is decided once, and told so, and each begin does a strict
+/// switch whole or not at all, with a cause that is true.
 pub fn requests_are_decided_once()
     ensures { (d : Description) (blanks : Blanks) (sessions : ℕ) (history : List Entry) → IsValid d
         → IsLegal d blanks sessions history → RequestsAreDecidedOnce (moments (boot d blanks sessions) history) }
 {}
 
-/// An unload of a legal history is done exactly for a loaded controller that is not active, and no later reply names it.
+/// An unload of a legal history is done exactly for a loaded controller that is not active, and no later reply names
+/// it.
 pub fn unloads_leave_nothing_behind()
     ensures { (d : Description) (blanks : Blanks) (sessions : ℕ) (history : List Entry)
         → IsLegal d blanks sessions history → UnloadsLeaveNothing (moments (boot d blanks sessions) history) }

@@ -23,7 +23,8 @@ pub fn hardware_requests_keep_a_state_steady()
         → IsSteady (concluded s (request.Hardware component target)).state }
 {}
 
-/// In a steady state the set that a switch leads to can run together, be it a strict one that can be done or a best effort.
+/// In a steady state the set that a switch leads to can run together, be it a strict one that can be done or a best
+/// effort.
 pub fn switches_lead_to_controllers_that_can_run_together()
     ensures strict { (s : State) (off on : List Pick) → IsSteady s → CanBeDone (scene_of s) off on
         → CanRunTogether s.description s.lives

@@ -1,5 +1,6 @@
 -- What a planned script rests on.
-use Rattle.std.proofs.Common.{◌≡◌, ℕ, zero, suc, ◌+◌, ◌<◌, true, List, [], ◌∷◌, Option, Some, None, inl, inr, ◌⊎◌, refl, sym, ap, arith}
+use Rattle.std.proofs.Common.{◌≡◌, ℕ, zero, suc, ◌+◌, ◌<◌, true, List, [], ◌∷◌, Option}
+use Rattle.std.proofs.Common.{Some, None, inl, inr, ◌⊎◌, refl, sym, ap, arith}
 use Rattle.std.specs.Prelude.{Result, Ok, Err}
 use Rattle.std.specs.List.{Contains, range_with_len}
 use Rattle.iface_names.specs.Names.{same_name}
@@ -23,15 +24,19 @@ use Rattle.spawn_laws.proofs.PrepareLemmas.{ArePlaced}
 -- ---- The parts of a plan
 
 -- a step of a plan, and what follows
-step_parts : {A B : Type 0} (r : Result A SpawnFault) (f : A → Result B SpawnFault) (y : B) → (r >>= f) ≡ Ok y → (x : A) × (r ≡ Ok x) × (f x ≡ Ok y)
+step_parts : {A B : Type 0} (r : Result A SpawnFault) (f : A → Result B SpawnFault) (y : B) → (r >>= f) ≡ Ok y
+    → (x : A) × (r ≡ Ok x) × (f x ≡ Ok y)
 step_parts (Ok x) f y is = (x, refl, is)
 step_parts (Err e) f y is = cc
 
-never_none : (o : Option Dropped) → ◌≡◌ {A = Result (Unit {0}) SpawnFault} (elim o [ None ↦ Ok tt | Some because ↦ Err (fault.Never because.name because.cause) ]) (Ok tt) → o ≡ None
+never_none : (o : Option Dropped)
+    → ◌≡◌ {A = Result (Unit {0}) SpawnFault}
+    (elim o [ None ↦ Ok tt | Some because ↦ Err (fault.Never because.name because.cause) ]) (Ok tt) → o ≡ None
 never_none None is = refl
 never_none (Some because) is = cc
 
-cycle_some : (o : Option ℕ) (k : ℕ) → ◌≡◌ {A = Result ℕ SpawnFault} (elim o [ None ↦ Err fault.NoCycle | Some cycle ↦ Ok cycle ]) (Ok k) → o ≡ Some k
+cycle_some : (o : Option ℕ) (k : ℕ)
+    → ◌≡◌ {A = Result ℕ SpawnFault} (elim o [ None ↦ Err fault.NoCycle | Some cycle ↦ Ok cycle ]) (Ok k) → o ≡ Some k
 cycle_some None k is = cc
 cycle_some (Some n) k is = let same : n ≡ k = cc in ap (λ (m : ℕ). Some m) same
 
@@ -47,7 +52,8 @@ pub record IsPlanned (d : Description) (blanks : Blanks) (wanted : List (List �
   pub begins : start_of d places ≡ Ok cycle
   pub script_is : script ≡ starting wanted cycle
 
-pub planned_parts : (d : Description) (blanks : Blanks) (wanted : List (List ℕ)) (script : Script) → spawned d blanks wanted ≡ Ok script → IsPlanned d blanks wanted script
+pub planned_parts : (d : Description) (blanks : Blanks) (wanted : List (List ℕ)) (script : Script)
+    → spawned d blanks wanted ≡ Ok script → IsPlanned d blanks wanted script
 unfolding spawned
 planned_parts d blanks wanted script is =
     let a = step_parts (places_in d.controllers wanted) _ script is in
@@ -70,7 +76,8 @@ planned_parts d blanks wanted script is =
     }
 
 -- some are wanted, so they have some places
-pub start_parts : (d : Description) (name : List ℕ) (names : List (List ℕ)) (places : List ℕ) (k : ℕ) → ArePlaced d.controllers (name ∷ names) places → start_of d places ≡ Ok k → first_fit d places ≡ Some k
+pub start_parts : (d : Description) (name : List ℕ) (names : List (List ℕ)) (places : List ℕ) (k : ℕ)
+    → ArePlaced d.controllers (name ∷ names) places → start_of d places ≡ Ok k → first_fit d places ≡ Some k
 start_parts d name names [] k placed starts = absurd placed
 start_parts d name names (p ∷ places) k placed starts = cycle_some (first_fit d (p ∷ places)) k starts
 
@@ -84,7 +91,8 @@ in_range first (suc count) k inside =
       | inr after ↦ (let less = in_range (first + 1) count k after in omega (arith, less))
     ]
 
-pub first_parts : (d : Description) (places : List ℕ) (k : ℕ) → first_fit d places ≡ Some k → (k < d.cycles) × (fits d places k ≡ true)
+pub first_parts : (d : Description) (places : List ℕ) (k : ℕ) → first_fit d places ≡ Some k
+    → (k < d.cycles) × (fits d places k ≡ true)
 unfolding first_fit
 first_parts d places k least =
     let r = found (fits d places) (range_with_len 0 d.cycles) k least in
@@ -94,4 +102,5 @@ first_parts d places k least =
 -- so a start comes with the first cycle or with another of the run
 pub start_within : (d : Description) (places : List ℕ) (k : ℕ) → start_of d places ≡ Ok k → (k ≡ 0) ⊎ (k < d.cycles)
 start_within d [] k starts = let same : 0 ≡ k = cc in inl (sym same)
-start_within d (p ∷ places) k starts = inr (first_parts d (p ∷ places) k (cycle_some (first_fit d (p ∷ places)) k starts)).0
+start_within d (p ∷ places) k starts =
+    inr (first_parts d (p ∷ places) k (cycle_some (first_fit d (p ∷ places)) k starts)).0

@@ -1,5 +1,6 @@
 -- The script of a plan meets the rules of scripts, and so its text reads back.
-use Rattle.std.proofs.Common.{◌≡◌, ℕ, zero, suc, ◌+◌, ◌≤◌, List, [], ◌∷◌, ◌++◌, length, length-append, map, inl, inr, refl, sym, ap, subst, arith}
+use Rattle.std.proofs.Common.{◌≡◌, ℕ, zero, suc, ◌+◌, ◌≤◌, List, [], ◌∷◌, ◌++◌, length}
+use Rattle.std.proofs.Common.{length-append, map, inl, inr, refl, sym, ap, subst, arith}
 use Rattle.std.specs.Prelude.{IsTrue, Ok}
 use Rattle.std.specs.List.{AllByRecursion}
 use Rattle.std.proofs.lemmas.List.{length-map}
@@ -29,7 +30,8 @@ use Rattle.spawn_laws.proofs.PrepareLemmas.{ArePlaced, are_placed}
 -- ---- How many lines there are
 
 -- as many places as names
-as_many : (cs : List CtlDesc) (names : List (List ℕ)) (places : List ℕ) → ArePlaced cs names places → length names ≡ length places
+as_many : (cs : List CtlDesc) (names : List (List ℕ)) (places : List ℕ) → ArePlaced cs names places
+    → length names ≡ length places
 as_many cs [] [] placed = refl
 as_many cs (name ∷ names) (p ∷ places) placed = ap suc (as_many cs names places placed.1)
 as_many cs [] (p ∷ places) placed = absurd placed
@@ -61,14 +63,16 @@ few_lines (name ∷ names) k few =
 
 -- ---- What holds of each line
 
-lines_all : (P : Call → Type 0) (names : List (List ℕ)) (k : ℕ) → AllByRecursion (λ name. P (Load name)) names → AllByRecursion (λ name. P (Configure name)) names
+lines_all : (P : Call → Type 0) (names : List (List ℕ)) (k : ℕ) → AllByRecursion (λ name. P (Load name)) names
+    → AllByRecursion (λ name. P (Configure name)) names
     → AllByRecursion P (waiting_for k) → P (starting_all names) → AllByRecursion P (start_lines names k)
 lines_all P [] k loads configures waits asks = tt
 lines_all P (name ∷ names) k loads configures waits asks =
     let wanted = name ∷ names in
     all_append P (map Load wanted ++ map Configure wanted ++ waiting_for k) (starting_all wanted ∷ [])
     (all_append P (map Load wanted ++ map Configure wanted) (waiting_for k)
-    (all_append P (map Load wanted) (map Configure wanted) (all_map P Load wanted loads) (all_map P Configure wanted configures)) waits) (asks, tt)
+    (all_append P (map Load wanted) (map Configure wanted) (all_map P Load wanted loads)
+    (all_map P Configure wanted configures)) waits) (asks, tt)
 
 -- the wait is for a cycle that a line can say
 wait_written : (k : ℕ) → k ≤ 999999999 → AllByRecursion CanBeWritten (waiting_for k)
@@ -85,7 +89,8 @@ each_so P so (x ∷ xs) = (so x, each_so P so xs)
 
 -- ---- The script
 
-module _ (names : List (List ℕ)) (k : ℕ) (named : AllByRecursion IsName names) (few : length names ≤ 64) (soon : k ≤ 999999999) where
+module _ (names : List (List ℕ)) (k : ℕ) (named : AllByRecursion IsName names) (few : length names ≤ 64)
+    (soon : k ≤ 999999999) where
   asks_written : CanBeWritten (starting_all names)
   asks_written =
       let most : length (map One names) + 0 ≤ 128 = omega (arith, length-map names One, few) in
@@ -98,7 +103,15 @@ module _ (names : List (List ℕ)) (k : ℕ) (named : AllByRecursion IsName name
       record {
         few_sessions = one;
         few_calls = calls;
-        sessions = (record { named = refl; not_loop = refl; written = lines_all CanBeWritten names k named named (wait_written k soon) asks_written }, tt);
+        sessions = (
+          record {
+            named = refl;
+            not_loop = refl;
+            written =
+                lines_all CanBeWritten names k named named (wait_written k soon) asks_written;
+          },
+          tt,
+        );
         apart = (tt, tt);
         turns = tt;
       }
@@ -109,7 +122,8 @@ uses names k = record {
   first = λ some. refl;
   further = λ more. refl;
   calls = (
-    lines_all (λ c. IsTrue (allows whole_grammar c)) names k (each_so (λ name. IsTrue (allows whole_grammar (Load name))) (λ name. refl) names)
+    lines_all (λ c. IsTrue (allows whole_grammar c)) names k
+        (each_so (λ name. IsTrue (allows whole_grammar (Load name))) (λ name. refl) names)
         (each_so (λ name. IsTrue (allows whole_grammar (Configure name))) (λ name. refl) names) (wait_allowed k) refl,
     tt,
   );
@@ -119,14 +133,16 @@ uses names k = record {
 -- ---- Of a plan
 
 -- The script of a plan over names meets the rules of scripts,
-pub planned_meets : (d : Description) (blanks : Blanks) (wanted : List (List ℕ)) (script : Script) → IsValid d → AllByRecursion IsName wanted → spawned d blanks wanted ≡ Ok script → MeetsRules script
+pub planned_meets : (d : Description) (blanks : Blanks) (wanted : List (List ℕ)) (script : Script) → IsValid d
+    → AllByRecursion IsName wanted → spawned d blanks wanted ≡ Ok script → MeetsRules script
 planned_meets d blanks wanted script valid named is =
     let plan = planned_parts d blanks wanted script is in
     let parts = parts_of_valid d valid in
     let controllers : length d.controllers ≤ 64 = parts.few.controllers in
     let cycles : d.cycles ≤ 100000 = parts.ranges.cycles in
     let many = as_many d.controllers wanted plan.places (are_placed d.controllers wanted plan.places plan.placed) in
-    let few : length wanted ≤ 64 = omega (arith, many, wanted_few d.controllers wanted plan.places plan.placed plan.once, controllers) in
+    let few : length wanted ≤ 64 =
+    omega (arith, many, wanted_few d.controllers wanted plan.places plan.placed plan.once, controllers) in
     let soon : plan.cycle ≤ 999999999 = elim (start_within d plan.places plan.cycle plan.begins) [
       | inl first ↦ omega (arith, first)
       | inr later ↦ omega (arith, later, cycles)
@@ -134,8 +150,10 @@ planned_meets d blanks wanted script valid named is =
     subst MeetsRules (sym plan.script_is) (meets wanted plan.cycle named few soon)
 
 -- and its text reads back.
-pub planned_reads_back : (d : Description) (blanks : Blanks) (wanted : List (List ℕ)) (script : Script) → IsValid d → AllByRecursion IsName wanted → spawned d blanks wanted ≡ Ok script
+pub planned_reads_back : (d : Description) (blanks : Blanks) (wanted : List (List ℕ)) (script : Script) → IsValid d
+    → AllByRecursion IsName wanted → spawned d blanks wanted ≡ Ok script
     → (line : ℕ) → script_with whole_grammar line (script_text script) ≡ Ok script
 planned_reads_back d blanks wanted script valid named is line =
     let plan = planned_parts d blanks wanted script is in
-    printed_reads_back script whole_grammar line (planned_meets d blanks wanted script valid named is) (subst (UsesGrammar whole_grammar) (sym plan.script_is) (uses wanted plan.cycle))
+    printed_reads_back script whole_grammar line (planned_meets d blanks wanted script valid named is)
+    (subst (UsesGrammar whole_grammar) (sym plan.script_is) (uses wanted plan.cycle))

@@ -11,8 +11,8 @@ ghost use Rattle.cm_model.specs.declared.entry.Entry.{Entry};
 ghost use Rattle.spawn_laws.specs.Starts.{AreActive};
 ghost use Rattle.spawn_plan.specs.Never.{never};
 
-/// No legal history of a valid description, over whatever stock, comes to a state in which exactly these controllers are active, if
-/// something speaks against them for good.
+/// No legal history of a valid description, over whatever stock, comes to a state in which exactly these controllers
+/// are active, if something speaks against them for good.
 pub fn no_legal_history_has_what_can_never_be()
     ensures { (d : Description) (blanks : Blanks) (sessions : ℕ) (history : List Entry) (places : List ℕ)
         (because : Dropped)

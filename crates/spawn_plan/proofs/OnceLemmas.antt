@@ -7,7 +7,9 @@ use Rattle.spawn_plan.specs.Wanted.{each_once}
 use Rattle.spawn_plan.specs.declared.fault.SpawnFault.{SpawnFault}
 use Rattle.spawn_plan.specs.declared.fault.SpawnFault.TheVariants as fault
 
-told_once : (o : Option (List ℕ)) → ◌≡◌ {A = Result (Unit {0}) SpawnFault} (elim o [ None ↦ Ok tt | Some name ↦ Err (fault.Twice name) ]) (Ok tt) → o ≡ None
+told_once : (o : Option (List ℕ))
+    → ◌≡◌ {A = Result (Unit {0}) SpawnFault} (elim o [ None ↦ Ok tt | Some name ↦ Err (fault.Twice name) ]) (Ok tt)
+    → o ≡ None
 told_once None once = refl
 told_once (Some name) once = cc
 
@@ -20,5 +22,6 @@ pub none_once : (wanted : List (List ℕ)) → repeated_after same_name [] wante
 none_once wanted none = rw (none, each_once) refl
 
 -- a name that stands twice is told
-pub some_twice : (wanted : List (List ℕ)) (name : List ℕ) → repeated_after same_name [] wanted ≡ Some name → each_once wanted ≡ Err (fault.Twice name)
+pub some_twice : (wanted : List (List ℕ)) (name : List ℕ) → repeated_after same_name [] wanted ≡ Some name
+    → each_once wanted ≡ Err (fault.Twice name)
 some_twice wanted name some = rw (some, each_once) refl

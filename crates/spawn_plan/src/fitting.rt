@@ -35,8 +35,8 @@ pub fn start_of(
     }
 }
 
-/// The first cycle of the run that fits. It is one in which all components are still there and that no controller lists: each list is gone
-/// through once.
+/// The first cycle of the run that fits. It is one in which all components are still there and that no controller
+/// lists: each list is gone through once.
 fn first_fit(
     alloc: Global,
     checked: &Checked,

@@ -1,4 +1,5 @@
-//! A planner of starts: the script that brings exactly the wanted controllers to active, or why there is none. It runs nothing.
+//! A planner of starts: the script that brings exactly the wanted controllers to active, or why there is none. It runs
+//! nothing.
 #![tactic(auto)]
 
 pub use fault::SpawnFault;

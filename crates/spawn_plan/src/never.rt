@@ -18,8 +18,8 @@ use sequence::{Seq, Shared};
 use std::alloc::Global;
 use switch_plan::{Relations, View, plan_with};
 
-/// These may be active together in some state; else why they never are. A strict switch of all of them is planned at its best: each is
-/// loaded, in the wanted order, inactive and ready, and each component is active.
+/// These may be active together in some state; else why they never are. A strict switch of all of them is planned at
+/// its best: each is loaded, in the wanted order, inactive and ready, and each component is active.
 pub fn can_be_active(
     alloc: Global,
     checked: &Checked,

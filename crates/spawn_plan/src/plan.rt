@@ -16,8 +16,9 @@ use iface_names::Name;
 use std::alloc::Global;
 use switch_plan::Relations;
 
-/// The script that brings exactly the wanted controllers to active, over a stock of these blanks, with the first cycle in which they can
-/// start; or the first reason why there is none. It takes time in proportion to the description, and runs nothing.
+/// The script that brings exactly the wanted controllers to active, over a stock of these blanks, with the first cycle
+/// in which they can start; or the first reason why there is none. It takes time in proportion to the description, and
+/// runs nothing.
 #[tactic(auto, unfolding(crate::specs::Plan::spawned))]
 pub fn spawn(
     alloc: Global,

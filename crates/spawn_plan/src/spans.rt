@@ -38,8 +38,8 @@ fn spans_of(alloc: Global, components: &[CompDesc], count: u64) -> Result<Vec<u6
     Ok(spans)
 }
 
-/// With how many cycles a component is there. A failure takes it away behind its cycle; a component that stays available then is there
-/// for good, though no description has one.
+/// With how many cycles a component is there. A failure takes it away behind its cycle; a component that stays
+/// available then is there for good, though no description has one.
 fn span_of(component: &CompDesc, count: u64) -> u64
     ensures { result ≡ span_of count component.now }
 {

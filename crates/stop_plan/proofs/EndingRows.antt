@@ -1,5 +1,5 @@
--- Worked rows of ends of cycles, by hand: of four controllers the first commands the second and that the third, and the fourth stands
--- alone.
+-- Worked rows of ends of cycles, by hand: of four controllers the first commands the second and that the third, and the
+-- fourth stands alone.
 use Rattle.std.proofs.Common.{◌≡◌, ℕ, Bool, true, false, List, [], ◌∷◌, map, refl}
 use Rattle.std.specs.Prelude.{◌&&◌, ◌||◌, not}
 use Rattle.cm_model.specs.Order.{Places, set_of}
@@ -79,11 +79,15 @@ unfolding at order leaders flags last_alone
 chained_after = refl
 
 -- so it is stopped with them, and it alone is started
-stopped_three : flags (places_where (λ m. not (last_alone m.place) || changes_mode leaders (set_of all) last_alone m.place) order) ≡ true ∷ true ∷ true ∷ false ∷ []
+stopped_three : flags
+    (places_where (λ m. not (last_alone m.place) || changes_mode leaders (set_of all) last_alone m.place) order)
+    ≡ true ∷ true ∷ true ∷ false ∷ []
 unfolding at order leaders all flags last_alone
 stopped_three = refl
 
-started_one : flags (places_where (λ m. last_alone m.place && changes_mode leaders (set_of all) last_alone m.place) order) ≡ false ∷ false ∷ true ∷ false ∷ []
+started_one : flags
+    (places_where (λ m. last_alone m.place && changes_mode leaders (set_of all) last_alone m.place) order)
+    ≡ false ∷ false ∷ true ∷ false ∷ []
 unfolding at order leaders all flags last_alone
 started_one = refl
 

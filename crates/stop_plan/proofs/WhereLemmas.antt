@@ -1,5 +1,6 @@
 -- The places of the controllers that pass a test, one controller after the other.
-use Rattle.std.proofs.Common.{◌≡◌, ℕ, ◌+◌, ◌<◌, ◌≤◌, Bool, true, false, List, [], ◌∷◌, length, take, get_or, refl, sym, ◌∙◌, ap, ap₂, inl, inr, arith}
+use Rattle.std.proofs.Common.{◌≡◌, ℕ, ◌+◌, ◌<◌, ◌≤◌, Bool, true, false, List, [], ◌∷◌, length}
+use Rattle.std.proofs.Common.{take, get_or, refl, sym, ◌∙◌, ap, ap₂, inl, inr, arith}
 use Rattle.std.specs.Prelude.{◌==◌, ◌&&◌, ◌||◌, nat_lt}
 use Rattle.std.proofs.Math.Path.{fun_ext}
 use Rattle.std.proofs.lemmas.Bool.{cases_eq, cases_lt, eqb-true, eq-eqb, ne_eqb, lt-ltb, le-ltb}
@@ -9,7 +10,8 @@ use Rattle.cm_model.specs.Order.{Places, with_one, places_of}
 use Rattle.cm_model.specs.declared.member.Member.{Member}
 use Rattle.stop_plan.specs.Reports.{places_where}
 
-module _ (test : Member → Bool) (ms : List Member) (i : ℕ) (d : Member) (old : Places) (below : i < length ms) (so_far : (p : ℕ) → old p ≡ places_where test (take i ms) p) where
+module _ (test : Member → Bool) (ms : List Member) (i : ℕ) (d : Member) (old : Places) (below : i < length ms)
+    (so_far : (p : ℕ) → old p ≡ places_where test (take i ms) p) where
   comes : (here before passes : Bool) → passes ≡ true → (here || before) ≡ (before || (here && passes))
   comes true true passes is = refl
   comes true false passes is = sym is
@@ -22,9 +24,11 @@ module _ (test : Member → Bool) (ms : List Member) (i : ℕ) (d : Member) (old
   stays_out false false passes is = refl
 
   -- one that passes comes in
-  pub one_in : test (get_or ms i d) ≡ true → (p : ℕ) → with_one (get_or ms i d).place old p ≡ places_where test (take (i + 1) ms) p
+  pub one_in : test (get_or ms i d) ≡ true → (p : ℕ)
+      → with_one (get_or ms i d).place old p ≡ places_where test (take (i + 1) ms) p
   one_in passes p =
-      ap (λ b. (get_or ms i d).place == p || b) (so_far p) ∙ comes ((get_or ms i d).place == p) (places_where test (take i ms) p) (test (get_or ms i d)) passes
+      ap (λ b. (get_or ms i d).place == p || b) (so_far p)
+      ∙ comes ((get_or ms i d).place == p) (places_where test (take i ms) p) (test (get_or ms i d)) passes
       ∙ sym (list_any_more (λ m. m.place == p && test m) ms i d below)
 
   -- another does not
@@ -34,17 +38,20 @@ module _ (test : Member → Bool) (ms : List Member) (i : ℕ) (d : Member) (old
       ∙ sym (list_any_more (λ m. m.place == p && test m) ms i d below)
 
 -- all of them have been looked at
-pub all_in : (test : Member → Bool) (ms : List Member) (i : ℕ) (set : Places) → length ms ≤ i → ((p : ℕ) → set p ≡ places_where test (take i ms) p) → set ≡ places_where test ms
+pub all_in : (test : Member → Bool) (ms : List Member) (i : ℕ) (set : Places) → length ms ≤ i
+    → ((p : ℕ) → set p ≡ places_where test (take i ms) p) → set ≡ places_where test ms
 all_in test ms i set past so_far = fun_ext (λ p. so_far p ∙ ap (λ xs. places_where test xs p) (take_all i ms past))
 
 -- a test of places is one of the place that is asked for
-pub where_place : (test : ℕ → Bool) (ms : List Member) (p : ℕ) → places_where (λ m. test m.place) ms p ≡ (places_of ms p && test p)
+pub where_place : (test : ℕ → Bool) (ms : List Member) (p : ℕ)
+    → places_where (λ m. test m.place) ms p ≡ (places_of ms p && test p)
 where_place test [] p = refl
 where_place test (m ∷ ms) p =
     ap (λ b. (m.place == p && test m.place) || b) (where_place test ms p)
     ∙ both (m.place == p) (places_of ms p) (test m.place) (test p) (λ same. ap test (eqb-true m.place p same))
   where
-    both : (here others first passes : Bool) → (here ≡ true → first ≡ passes) → ((here && first) || (others && passes)) ≡ ((here || others) && passes)
+    both : (here others first passes : Bool) → (here ≡ true → first ≡ passes)
+        → ((here && first) || (others && passes)) ≡ ((here || others) && passes)
     both true others first passes same = ap (λ b. b || (others && passes)) (same refl) ∙ absorbed passes others
       where
         absorbed : (a b : Bool) → (a || (b && a)) ≡ a
@@ -54,7 +61,8 @@ where_place test (m ∷ ms) p =
     both false others first passes same = refl
 
 -- tests that agree on the members
-pub where_same : (f g : Member → Bool) → ((m : Member) → f m ≡ g m) → (ms : List Member) (p : ℕ) → places_where f ms p ≡ places_where g ms p
+pub where_same : (f g : Member → Bool) → ((m : Member) → f m ≡ g m) → (ms : List Member) (p : ℕ)
+    → places_where f ms p ≡ places_where g ms p
 where_same f g same [] p = refl
 where_same f g same (m ∷ ms) p = ap₂ (λ a b. (m.place == p && a) || b) (same m) (where_same f g same ms p)
 
@@ -64,12 +72,20 @@ module _ (test : ℕ → Bool) (i : ℕ) (old : Places) (so_far : (p : ℕ) → 
   pub next_in : test i ≡ true → (p : ℕ) → with_one i old p ≡ (nat_lt p (i + 1) && test p)
   next_in passes p = ap (λ b. i == p || b) (so_far p) ∙
       elim (cases_lt p i) [
-        | inl before ↦ rw (ne_eqb i p (λ e. omega (arith, before, e)), lt-ltb p i before, lt-ltb p (i + 1) (omega (arith, before))) refl
+        | inl before ↦ rw (
+          ne_eqb i p (λ e. omega (arith, before, e)),
+          lt-ltb p i before,
+          lt-ltb p (i + 1) (omega (arith, before)),
+        ) refl
         | inr above ↦
             elim (cases_eq p i) [
               | inl e ↦ rw e (rw (eq-eqb i i refl, lt-ltb i (i + 1) (omega arith), passes) refl)
               | inr other ↦
-                  rw (ne_eqb i p (λ e. other (sym e)), le-ltb p i above, le-ltb p (i + 1) (omega (arith, above, λ (e : p ≡ i). other e))) refl
+                  rw (
+                    ne_eqb i p (λ e. other (sym e)),
+                    le-ltb p i above,
+                    le-ltb p (i + 1) (omega (arith, above, λ (e : p ≡ i). other e)),
+                  ) refl
             ]
       ]
 

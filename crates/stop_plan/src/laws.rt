@@ -15,15 +15,16 @@ pub fn a_commit_of_the_active_changes_nothing()
         → commit s (active s) again ≡ s }
 {}
 
-/// Where no component and no update failed, the end of a cycle stops nobody and changes nothing: the state is as the cycle leaves it.
+/// Where no component and no update failed, the end of a cycle stops nobody and changes nothing: the state is as the
+/// cycle leaves it.
 pub fn a_cycle_without_failure_ends_as_it_lands()
     ensures none_stopped { (s : State) → failed_in s ≡ [] → erred_in (told_in s) ≡ [] → stops s (told_in s) ≡ [] }
     ensures unchanged { (s : State) → IsSteady s → failed_in s ≡ [] → erred_in (told_in s) ≡ []
         → after_cycle s (cycle s) ≡ landed s (cycle s) }
 {}
 
-/// The controllers that stay active at the end of a cycle can be committed in the state that the cycle leaves, whichever components and
-/// updates failed.
+/// The controllers that stay active at the end of a cycle can be committed in the state that the cycle leaves,
+/// whichever components and updates failed.
 pub fn those_that_stay_can_be_committed()
     ensures { (s : State) → IsValid s.description → IsSteady s
         → CanBeCommitted (landed s (cycle s)) (stays_active s (told_in s)) }

@@ -40,7 +40,8 @@ pub(crate) fn gather_struck(set: &mut PlaceSet, report: &Report)
     }
 }
 
-/// Each active controller that precedes a member at any distance becomes one: those that follow in the order of updates come first.
+/// Each active controller that precedes a member at any distance becomes one: those that follow in the order of updates
+/// come first.
 pub(crate) fn spread(set: &mut PlaceSet, report: &Report)
     requires report { IsReport report.now }
     requires flags { length set.old ≡ count_in report.now }
@@ -72,8 +73,8 @@ pub(crate) fn gather_staying(set: &mut PlaceSet, fallen: &PlaceSet, members: &[M
     }
 }
 
-/// The two sets of controllers between which a commit leads: those active before it and after it, and by whom each described one is
-/// preceded.
+/// The two sets of controllers between which a commit leads: those active before it and after it, and by whom each
+/// described one is preceded.
 #[derive(Clone, Copy)]
 pub(crate) struct Transition<'a> {
     pub(crate) leaders: &'a Links,

@@ -16,7 +16,8 @@ record AddsOutcomes (n : ℕ) (old new : Counted) : Type 0 where
 
 outcome_adds : (o : Outcome) (c : Counted) → AddsOutcomes 1 c (with_outcome o c)
 outcome_adds (outcome.Done dropped) c = record { cycles = refl; entries = refl; updates = refl; outcomes = omega arith }
-outcome_adds (outcome.Refused name cause) c = record { cycles = refl; entries = refl; updates = refl; outcomes = omega arith }
+outcome_adds (outcome.Refused name cause) c =
+    record { cycles = refl; entries = refl; updates = refl; outcomes = omega arith }
 outcome_adds outcome.LoopEnded c = record { cycles = refl; entries = refl; updates = refl; outcomes = omega arith }
 
 decided_adds : (ticket : Option ℕ) (o : Outcome) (c : Counted) → AddsOutcomes 1 c (with_decided ticket o c)
@@ -41,14 +42,28 @@ one_more c = record c { entries = c.entries + 1 }
 
 -- an entry that adds nothing else
 pub few_other : (c : Counted) → AreFew c → AreFew (one_more c)
-few_other c few = record { cycles = omega (arith, few.cycles); updates = omega (arith, few.updates); outcomes = omega (arith, few.outcomes) }
+few_other c few =
+    record {
+      cycles = omega (arith, few.cycles);
+      updates = omega (arith, few.updates);
+      outcomes =
+          omega (arith, few.outcomes);
+    }
 
 -- an entry with a record
-pub few_cycle : (happened : Happened) (c : Counted) → AreFew c → length happened.ran < 2 ^ 64 → AreFew (with_cycle happened (one_more c))
-few_cycle happened c few fits = record { cycles = omega (arith, few.cycles); updates = omega (arith, few.updates, fits); outcomes = omega (arith, few.outcomes) }
+pub few_cycle : (happened : Happened) (c : Counted) → AreFew c → length happened.ran < 2 ^ 64
+    → AreFew (with_cycle happened (one_more c))
+few_cycle happened c few fits =
+    record {
+      cycles = omega (arith, few.cycles);
+      updates = omega (arith, few.updates, fits);
+      outcomes =
+          omega (arith, few.outcomes);
+    }
 
 -- an entry with decisions
-pub few_decisions : (ds : List Decision) (c : Counted) → AreFew c → length ds < 2 ^ 64 → AreFew (with_decisions ds (one_more c))
+pub few_decisions : (ds : List Decision) (c : Counted) → AreFew c → length ds < 2 ^ 64
+    → AreFew (with_decisions ds (one_more c))
 few_decisions ds c few fits =
     let adds = decisions_add ds (one_more c) in
     record {

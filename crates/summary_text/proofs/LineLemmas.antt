@@ -12,8 +12,10 @@ joined_texts text [] = refl
 joined_texts text (x ∷ xs) = ap (λ rest. text x ++ rest) (joined_texts text xs)
 
 -- the lines of this description and of what is counted of this history
-pub lines_are_summary : {X : Type 0} (text : X → List ℕ) (xs : List X) (d e : Description) (c : Counted) (history : List Entry)
+pub lines_are_summary : {X : Type 0} (text : X → List ℕ) (xs : List X) (d e : Description) (c : Counted)
+    (history : List Entry)
     → map text xs ≡ lines_of e c → e ≡ d → c ≡ counted history → flat_map text xs ≡ summary d history
 unfolding summary
 lines_are_summary text xs d e c history made same all =
-    sym (joined_texts text xs) ∙ ap (λ lines. flat_map (λ line. line) lines) (made ∙ ap (λ e. lines_of e c) same ∙ ap (lines_of d) all)
+    sym (joined_texts text xs)
+    ∙ ap (λ lines. flat_map (λ line. line) lines) (made ∙ ap (λ e. lines_of e c) same ∙ ap (lines_of d) all)

@@ -42,18 +42,42 @@ abbrev decided : ℕ → Outcome → Decision
 decided ticket became = record { ticket = Some ticket; outcome = became }
 
 -- of no entry all counts are 0, and each joint is where it is described
-of_nothing : summary robot [] ≡ codes "cycles 0\nentries 0\nupdates 0\nasks 0 done 0 refused 0 ended 0\njoint j1 0.500000\njoint j2 0.500000\n"
+of_nothing : summary robot []
+    ≡ codes "cycles 0\nentries 0\nupdates 0\nasks 0 done 0 refused 0 ended 0\njoint j1 0.500000\njoint j2 0.500000\n"
 unfolding summary spelled digits
 of_nothing = refl
 
--- Two cycles with three updates, one of them of a controller that failed; a request of each outcome; and the positions after the second
--- cycle, not those after the first.
+-- Two cycles with three updates, one of them of a controller that failed; a request of each outcome; and the positions
+-- after the second cycle, not those after the first.
 of_two_cycles : summary robot (
     record { who = 0; call = call.Load (codes "f"); reply = reply.Serial 0 }
-    ∷ record { who = 1; call = call.Begin 0; reply = reply.Decisions (decided 0 (outcome.Done []) ∷ decided 1 (outcome.Refused (codes "g") Unknown) ∷ []) }
-    ∷ record { who = 1; call = call.End 0; reply = reply.Cycle (record { cycle = 0; failed = []; ran = ran 0 ∷ ran 1 ∷ []; bodies = at 1 ∷ at 2 ∷ []; stops = [] }) }
+    ∷ record {
+      who = 1;
+      call = call.Begin 0;
+      reply =
+          reply.Decisions (decided 0 (outcome.Done []) ∷ decided 1 (outcome.Refused (codes "g") Unknown) ∷ []);
+    }
+    ∷ record {
+      who = 1;
+      call = call.End 0;
+      reply =
+          reply.Cycle (record
+          { cycle = 0; failed = []; ran = ran 0 ∷ ran 1 ∷ []; bodies = at 1 ∷ at 2 ∷ []; stops = [] });
+    }
     ∷ record { who = 1; call = call.Begin 1; reply = reply.Decisions [] }
-    ∷ record { who = 1; call = call.End 1; reply = reply.Cycle (record { cycle = 1; failed = []; ran = record { serial = 1; done = done.Error; outs = []; published = [] } ∷ []; bodies = at 1500000 ∷ at 20 ∷ []; stops = 1 ∷ [] }) }
+    ∷ record {
+      who = 1;
+      call = call.End 1;
+      reply =
+          reply.Cycle (record {
+            cycle = 1;
+            failed = [];
+            ran =
+                record { serial = 1; done = done.Error; outs = []; published = [] } ∷ [];
+            bodies = at 1500000 ∷ at 20 ∷ [];
+            stops = 1 ∷ [];
+          });
+    }
     ∷ record { who = 1; call = call.Close; reply = reply.Decisions (decided 2 outcome.LoopEnded ∷ []) } ∷ [])
     ≡ codes "cycles 2\nentries 6\nupdates 3\nasks 3 done 1 refused 1 ended 1\njoint j1 1.500000\njoint j2 0.000020\n"
 unfolding summary spelled digits

@@ -3,7 +3,8 @@
 ghost use Rattle.std.specs.Prelude.{◌≡◌, ◌++◌, ◌<◌, ◌^◌, map, IfOk, OnOk, string_bytes};
 ghost use Rattle.cm_document.specs.Links.{joints_of};
 ghost use Rattle.summary_text.specs.Few.{outcomes};
-ghost use Rattle.summary_text.specs.Summary.{number_line, asks_line, count_lines, position_at, joint_line, joint_lines, lines_of};
+ghost use Rattle.summary_text.specs.Summary.{number_line, asks_line, count_lines, position_at};
+ghost use Rattle.summary_text.specs.Summary.{joint_line, joint_lines, lines_of};
 
 use crate::tally::Tally;
 use cm_document::{CompDesc, Description, JointDesc};

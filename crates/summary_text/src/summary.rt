@@ -38,8 +38,8 @@ fn write_lines<K: Sink>(sink: &mut K, lines: &[String]) -> Result<(), OutFault>
     Ok(())
 }
 
-/// Writes the summary of a history, a line a piece. It is counted in one pass over the entries, before anything is written. After
-/// either fault the sink has taken a front of it. Nothing is flushed.
+/// Writes the summary of a history, a line a piece. It is counted in one pass over the entries, before anything is
+/// written. After either fault the sink has taken a front of it. Nothing is flushed.
 #[tactic(auto, using(crate::proofs::LineLemmas::lines_are_summary))]
 pub fn write_summary<K: Sink>(
     alloc: Global,

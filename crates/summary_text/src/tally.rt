@@ -2,7 +2,8 @@
 
 ghost use Rattle.std.specs.Prelude.{◌≡◌, ◌+◌, ◌-◌, ◌<◌, ◌≤◌, ◌^◌, length};
 ghost use Rattle.summary_text.specs.Calls.Count.{CanCount};
-ghost use Rattle.summary_text.specs.Counted.{Counted, nothing, counted, with_entry, with_cycle, with_decided, with_decisions, with_outcome};
+ghost use Rattle.summary_text.specs.Counted.{Counted, nothing, counted, with_entry, with_cycle};
+ghost use Rattle.summary_text.specs.Counted.{with_decided, with_decisions, with_outcome};
 ghost use Rattle.summary_text.specs.Few.{AreFew, outcomes};
 
 use cm_model::{Decision, Entry, Outcome, Reply};
@@ -10,8 +11,8 @@ use cm_storage::CycleRecord;
 use fixed_num::BodyState;
 use std::marker::Model;
 
-/// What is counted of some entries, and where the bodies are after the last cycle among them. Each count has 128 bits: an entry may
-/// hold as many items as there can be.
+/// What is counted of some entries, and where the bodies are after the last cycle among them. Each count has 128 bits:
+/// an entry may hold as many items as there can be.
 #[derive(Debug, Drop)]
 pub struct Tally<'a> {
     /// The cycles that ended.

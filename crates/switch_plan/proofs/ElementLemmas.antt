@@ -1,10 +1,12 @@
 -- Elements of lists: what is found of them, and what is kept.
-use Rattle.std.proofs.Common.{◌≡◌, ◌⊎◌, Bool, true, false, List, [], ◌∷◌, ◌++◌, map, cond, Option, Some, None, inl, inr, refl, sym, ◌∙◌, ap, arith}
+use Rattle.std.proofs.Common.{◌≡◌, ◌⊎◌, Bool, true, false, List, [], ◌∷◌, ◌++◌, map, cond}
+use Rattle.std.proofs.Common.{Option, Some, None, inl, inr, refl, sym, ◌∙◌, ap, arith}
 use Rattle.std.specs.Prelude.{option_map}
 use Rattle.std.specs.List.{Contains, list_any, find, filter}
 use Rattle.std.specs.Option.{option_or}
 use Rattle.std.proofs.lemmas.Bool.{false_from_ne_true, true≢false}
-use Rattle.std.proofs.lemmas.List.Elements.{Contains-push, Contains-push_cases, Contains-append_left, Contains-append_right, Contains-append_cases}
+use Rattle.std.proofs.lemmas.List.Elements.{Contains-push, Contains-push_cases, Contains-append_left}
+use Rattle.std.proofs.lemmas.List.Elements.{Contains-append_right, Contains-append_cases}
 use Rattle.std.proofs.lemmas.List.Folds.{list_any_at, Any-from_list_any}
 use Rattle.std.proofs.lemmas.Option.{same_Some}
 use Rattle.cm_model.specs.Faults.{first_of}
@@ -28,7 +30,8 @@ pub map_none : {A B : Type 0} (f : A → B) (o : Option A) → option_map f o �
 map_none f None e = refl
 map_none f (Some x) e = cc
 
-pub map_some : {A B : Type 0} (f : A → B) (o : Option A) (y : B) → option_map f o ≡ Some y → (x : A) × (o ≡ Some x) × (f x ≡ y)
+pub map_some : {A B : Type 0} (f : A → B) (o : Option A) (y : B) → option_map f o ≡ Some y
+    → (x : A) × (o ≡ Some x) × (f x ≡ y)
 map_some f None y e = cc
 map_some f (Some x) y e = (x, refl, same_Some (f x) y e)
 
@@ -55,7 +58,8 @@ first_or_later x xs y inside =
     ]
 
 -- the list before an element, and behind it
-pub split_at : {A : Type 0} (xs : List A) (y : A) → Contains xs y → (before : List A) × (after : List A) × (xs ≡ before ++ y ∷ after)
+pub split_at : {A : Type 0} (xs : List A) (y : A) → Contains xs y
+    → (before : List A) × (after : List A) × (xs ≡ before ++ y ∷ after)
 split_at [] y inside = absurd (none_inside y inside)
 split_at (x ∷ xs) y inside =
     elim (first_or_later x xs y inside) [
@@ -71,7 +75,8 @@ Contains-map f (x ∷ xs) y inside =
       | inr after ↦ later (f x) (map f xs) (f y) (Contains-map f xs y after)
     ]
 
-pub Contains-map_back : {A B : Type 0} (f : A → B) (xs : List A) (y : B) → Contains (map f xs) y → (x : A) × Contains xs x × (f x ≡ y)
+pub Contains-map_back : {A B : Type 0} (f : A → B) (xs : List A) (y : B) → Contains (map f xs) y
+    → (x : A) × Contains xs x × (f x ≡ y)
 Contains-map_back f [] y inside = absurd (none_inside y inside)
 Contains-map_back f (x ∷ xs) y inside =
     elim (first_or_later (f x) (map f xs) y inside) [
@@ -89,13 +94,16 @@ module _ {A : Type 0} (test : A → Bool) where
   some_of xs any = let r = Any-from_list_any test xs any in (r.1, (r.0, r.2, r.3), r.4)
 
   pub each_fails : (xs : List A) → list_any test xs ≡ false → (x : A) → Contains xs x → test x ≡ false
-  each_fails xs none x inside = false_from_ne_true (test x) (λ passes. true≢false (sym (any_from xs x inside passes) ∙ none))
+  each_fails xs none x inside =
+      false_from_ne_true (test x) (λ passes. true≢false (sym (any_from xs x inside passes) ∙ none))
 
   pub none_passes : (xs : List A) → ((x : A) → Contains xs x → test x ≡ false) → list_any test xs ≡ false
-  none_passes xs fails = false_from_ne_true (list_any test xs) (λ any. let r = some_of xs any in true≢false (sym r.2 ∙ fails r.0 r.1))
+  none_passes xs fails =
+      false_from_ne_true (list_any test xs) (λ any. let r = some_of xs any in true≢false (sym r.2 ∙ fails r.0 r.1))
 
   -- what is found
-  found_one : (b : Bool) (x y : A) (rest : Option A) → cond b (Some x) rest ≡ Some y → ((b ≡ true) × (x ≡ y)) ⊎ (rest ≡ Some y)
+  found_one : (b : Bool) (x y : A) (rest : Option A) → cond b (Some x) rest ≡ Some y
+      → ((b ≡ true) × (x ≡ y)) ⊎ (rest ≡ Some y)
   found_one true x y rest e = inl (refl, same_Some x y e)
   found_one false x y rest e = inr e
 
@@ -127,11 +135,14 @@ module _ {A : Type 0} (test : A → Bool) where
   pub none_found : (xs : List A) → ((y : A) → Contains xs y → test y ≡ false) → find test xs ≡ None
   none_found [] fails = refl
   none_found (x ∷ xs) fails =
-      none_found_one (test x) x (find test xs) (fails x (here x xs)) (none_found xs (λ y inside. fails y (later x xs y inside)))
+      none_found_one (test x) x (find test xs) (fails x (here x xs))
+      (none_found xs (λ y inside. fails y (later x xs y inside)))
 
   -- what is kept
-  kept_one : (b : Bool) (x y : A) (rest : List A) → Contains (cond b (x ∷ rest) rest) y → ((b ≡ true) × (x ≡ y)) ⊎ Contains rest y
-  kept_one true x y rest inside = elim (first_or_later x rest y inside) [ inl same ↦ inl (refl, same) | inr after ↦ inr after ]
+  kept_one : (b : Bool) (x y : A) (rest : List A) → Contains (cond b (x ∷ rest) rest) y
+      → ((b ≡ true) × (x ≡ y)) ⊎ Contains rest y
+  kept_one true x y rest inside =
+      elim (first_or_later x rest y inside) [ inl same ↦ inl (refl, same) | inr after ↦ inr after ]
   kept_one false x y rest inside = inr inside
 
   pub filter_back : (xs : List A) (y : A) → Contains (filter test xs) y → Contains xs y × (test y ≡ true)
@@ -173,7 +184,8 @@ module _ {A B : Type 0} (f : A → Option B) where
   pub first_of-all : (xs : List A) → ((x : A) → Contains xs x → f x ≡ None) → first_of f xs ≡ None
   first_of-all [] none = refl
   first_of-all (y ∷ ys) none =
-      ap (λ o. option_or o (first_of f ys)) (none y (here y ys)) ∙ first_of-all ys (λ x inside. none x (later y ys x inside))
+      ap (λ o. option_or o (first_of f ys)) (none y (here y ys))
+      ∙ first_of-all ys (λ x inside. none x (later y ys x inside))
 
   pub first_of-some : (xs : List A) (b : B) → first_of f xs ≡ Some b → (x : A) × Contains xs x × (f x ≡ Some b)
   first_of-some [] b e = cc

@@ -1,5 +1,6 @@
 -- Tests and sets of places.
-use Rattle.std.proofs.Common.{◌≡◌, ℕ, zero, suc, ◌<◌, ◌≤◌, Bool, true, false, List, [], ◌∷◌, ◌++◌, Option, Some, None, inl, inr, refl, arith}
+use Rattle.std.proofs.Common.{◌≡◌, ℕ, zero, suc, ◌<◌, ◌≤◌, Bool, true, false, List, []}
+use Rattle.std.proofs.Common.{◌∷◌, ◌++◌, Option, Some, None, inl, inr, refl, arith}
 use Rattle.std.specs.Prelude.{option_map}
 use Rattle.std.specs.List.{All, cons_option}
 use Rattle.std.specs.Option.{option_or}
@@ -23,14 +24,17 @@ some_below-from test (suc n) k below passes =
     ]
 
 -- no loaded controller stands past the places that each has
-pub has_seen-past : (test : Seen → Bool) (n : ℕ) (ls : List Seen) → All (λ l. l.place < n) ls → (p : ℕ) → n ≤ p → has_seen test ls p ≡ false
+pub has_seen-past : (test : Seen → Bool) (n : ℕ) (ls : List Seen) → All (λ l. l.place < n) ls → (p : ℕ) → n ≤ p
+    → has_seen test ls p ≡ false
 has_seen-past test n [] each p above = refl
 has_seen-past test n (l ∷ ls) each p above =
     let here : l.place < n = All-head (λ l. l.place < n) l ls each in
-    rw (ne_eqb l.place p (λ e. omega (arith, here, above, e))) (has_seen-past test n ls (All-tail (λ l. l.place < n) l ls each) p above)
+    rw (ne_eqb l.place p (λ e. omega (arith, here, above, e)))
+    (has_seen-past test n ls (All-tail (λ l. l.place < n) l ls each) p above)
 
 -- the first that something is found of stands in the first part, or else in the second
-pub first_of_append : {A B : Type 0} (f : A → Option B) (xs ys : List A) → first_of f (xs ++ ys) ≡ option_or (first_of f xs) (first_of f ys)
+pub first_of_append : {A B : Type 0} (f : A → Option B) (xs ys : List A)
+    → first_of f (xs ++ ys) ≡ option_or (first_of f xs) (first_of f ys)
 first_of_append f [] ys = refl
 first_of_append {B = B} f (x ∷ xs) ys = found (f x) (first_of_append f xs ys)
   where
@@ -40,7 +44,8 @@ first_of_append {B = B} f (x ∷ xs) ys = found (f x) (first_of_append f xs ys)
     found (Some b) rest = refl
 
 -- the controllers of a name and of others
-pub loaded_all-cons : (scene : Scene) (name : List ℕ) (names : List (List ℕ)) → loaded_all scene (name ∷ names) ≡ loaded_all scene (name ∷ []) ++ loaded_all scene names
+pub loaded_all-cons : (scene : Scene) (name : List ℕ) (names : List (List ℕ))
+    → loaded_all scene (name ∷ names) ≡ loaded_all scene (name ∷ []) ++ loaded_all scene names
 loaded_all-cons scene name names = found (option_map member (loaded_of scene name))
   where
     found : (o : Option Member) → cons_option o (loaded_all scene names) ≡ cons_option o [] ++ loaded_all scene names

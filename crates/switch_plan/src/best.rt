@@ -1,12 +1,14 @@
 //! Switches of which is done what can be done.
 
-ghost use Rattle.std.specs.Prelude.{◌≡◌, ◌<◌, ◌++◌, ◌&&◌, ◌||◌, length, find, filter_map, option_map, None, IsTrue, IfOk, OnOk, All};
+ghost use Rattle.std.specs.Prelude.{◌≡◌, ◌<◌, ◌++◌, ◌&&◌, ◌||◌, length, find, filter_map};
+ghost use Rattle.std.specs.Prelude.{option_map, None, IsTrue, IfOk, OnOk, All};
 ghost use Rattle.cm_document.specs.Links.{refs_of};
 ghost use Rattle.cm_model.specs.Faults.{fault};
 ghost use Rattle.cm_model.specs.Order.{Places, set_of};
 ghost use Rattle.cm_model.specs.Scene.{controllers_in, claims_at, is_claimed_by};
 ghost use Rattle.cm_model.specs.Switches.{planned};
-ghost use Rattle.cm_model.specs.BestEffort.{Joined, stays, stays_more, kept_drop, by_height, join, joining, best_leaving, best_asked, best};
+ghost use Rattle.cm_model.specs.BestEffort.{Joined, stays, stays_more, kept_drop, by_height};
+ghost use Rattle.cm_model.specs.BestEffort.{join, joining, best_leaving, best_asked, best};
 ghost use Rattle.chain_order.specs.Links.{each_below};
 ghost use Rattle.switch_plan.specs.Calls.Members.{CanJoin};
 ghost use Rattle.switch_plan.specs.View.{scene_of, IsPlace, HavePlaces, HasFlags};
@@ -249,7 +251,8 @@ fn joined(
     Ok(set)
 }
 
-/// These by height, and those of one height as they stand. Where the relations are known the heights are too, and no name is looked up.
+/// These by height, and those of one height as they stand. Where the relations are known the heights are too, and no
+/// name is looked up.
 fn by_height(alloc: Global, setting: &Setting, coming: &[Member]) -> Result<Vec<Member>, Memory>
     requires setting { IsSetting setting.now }
     requires within { HavePlaces (set_scene setting.now) coming.now }
@@ -265,8 +268,8 @@ fn by_height(alloc: Global, setting: &Setting, coming: &[Member]) -> Result<Vec<
     Ok(ordered)
 }
 
-/// One more where it has no fault beside those that are active by then; else it is dropped. Where the relations show at once that it has
-/// none, no order is worked out.
+/// One more where it has no fault beside those that are active by then; else it is dropped. Where the relations show at
+/// once that it has none, no order is worked out.
 fn join(
     alloc: Global,
     setting: &Setting,

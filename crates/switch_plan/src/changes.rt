@@ -16,7 +16,8 @@ use fixed_num::Memory;
 use sequence::{Seq, Shared, SharedList};
 use std::alloc::Global;
 
-/// A decision that is done: the controllers that will be active, and those of them that restart because they are named for it.
+/// A decision that is done: the controllers that will be active, and those of them that restart because they are named
+/// for it.
 #[derive(Clone, Copy)]
 pub struct Change<'a> {
     /// What it rests on.

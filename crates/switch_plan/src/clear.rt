@@ -16,8 +16,8 @@ use crate::view::View;
 use chain_order::{PlaceSet, has_any};
 use cm_document::Life;
 
-/// Whether it is seen at once that no fault counts against a set, of which these are to be activated. Where it is not, there may still be
-/// none.
+/// Whether it is seen at once that no fault counts against a set, of which these are to be activated. Where it is not,
+/// there may still be none.
 pub fn are_clear(view: &View, relations: &Relations, set: &PlaceSet, on: &PlaceSet) -> bool
     requires view { IsView view.now }
     requires relations { relations.now ≡ relations_of view.now.checked.now }

@@ -1,15 +1,18 @@
 //! What speaks against a member of a set of controllers that is to be active.
 
-ghost use Rattle.std.specs.Prelude.{◌≡◌, ◌<◌, not, ◌&&◌, ◌==◌, ◌++◌, length, slice_index_or, Option, option_map, IfOk, IfSome, All};
+ghost use Rattle.std.specs.Prelude.{◌≡◌, ◌<◌, not, ◌&&◌, ◌==◌, ◌++◌, length};
+ghost use Rattle.std.specs.Prelude.{slice_index_or, Option, option_map, IfOk, IfSome, All};
 ghost use Rattle.std.specs.List.{list_any};
 ghost use Rattle.cm_model.specs.Order.{set_of};
 ghost use Rattle.cm_model.specs.Components.{is_available};
 ghost use Rattle.cm_model.specs.Scene.{controllers_in, claims_at, is_ready};
-ghost use Rattle.cm_model.specs.Faults.{first_of, cause_if, is_unavailable, is_mode_taken, rival, conflict_over, fault_of_kind, fault};
+ghost use Rattle.cm_model.specs.Faults.{first_of, cause_if, is_unavailable, is_mode_taken};
+ghost use Rattle.cm_model.specs.Faults.{rival, conflict_over, fault_of_kind, fault};
 ghost use Rattle.cm_model.specs.declared.cause.Cause.TheVariants as cause;
 ghost use Rattle.cm_document.specs.declared.life.Life.TheVariants.{Unconfigured};
 ghost use Rattle.switch_plan.specs.View.{scene_of, IsPlace};
-ghost use Rattle.switch_plan.specs.Proposals.{proposal_scene, proposed, asked_on, missing_from, mode_taken_in, IsProposal};
+ghost use Rattle.switch_plan.specs.Proposals.{proposal_scene, proposed, asked_on};
+ghost use Rattle.switch_plan.specs.Proposals.{missing_from, mode_taken_in, IsProposal};
 
 use crate::interfaces;
 use crate::members::is_ready;
@@ -22,8 +25,8 @@ use iface_names::IfaceName;
 use sequence::Boxed;
 use std::alloc::Global;
 
-/// A set of controllers that is proposed to be active, with what is asked of its members: which of them are to be activated, and the
-/// order of their updates.
+/// A set of controllers that is proposed to be active, with what is asked of its members: which of them are to be
+/// activated, and the order of their updates.
 #[derive(Clone, Copy)]
 pub struct Proposal<'a> {
     /// Where the memory of what is told comes from.

@@ -13,7 +13,8 @@ ghost use Rattle.cm_model.specs.declared.cause.Cause.{Cause};
 ghost use Rattle.cm_model.specs.declared.cause.Dropped.{Dropped};
 ghost use Rattle.cm_model.specs.declared.cause.Outcome.TheVariants as outcome;
 ghost use Rattle.cm_model.specs.declared.member.Member.{Member};
-ghost use Rattle.switch_plan.specs.Laws.{CanBeDone, CountsAgainst, IsTrueOf, strict_set, CanLeave, asked_off, tried_on, joined_of, CannotJoin};
+ghost use Rattle.switch_plan.specs.Laws.{CanBeDone, CountsAgainst, IsTrueOf, strict_set};
+ghost use Rattle.switch_plan.specs.Laws.{CanLeave, asked_off, tried_on, joined_of, CannotJoin};
 
 /// A strict switch is done exactly where nothing counts against it, and so is its plan.
 pub fn a_strict_switch_is_done_where_nothing_counts()
@@ -37,9 +38,9 @@ pub fn a_refusal_names_a_true_cause()
         → IsTrueOf scene (flat scene.description r.off) (flat scene.description r.on) name c }
 {}
 
-/// What leaves of active controllers that are asked to is the union of all subsets that may leave, those in which each active
-/// controller is that precedes a member; and it is such a subset itself, so it is the greatest. What a best effort asks to leave is
-/// active.
+/// What leaves of active controllers that are asked to is the union of all subsets that may leave, those in which each
+/// active controller is that precedes a member; and it is such a subset itself, so it is the greatest. What a best
+/// effort asks to leave is active.
 pub fn the_greatest_subset_leaves()
     ensures union { (scene : Scene) (asked : Places) → ((p : ℕ) → asked p ≡ true → active scene p ≡ true)
         → (p : ℕ) → (reduced scene asked p ≡ true)
@@ -50,9 +51,10 @@ pub fn the_greatest_subset_leaves()
         → active scene p ≡ true }
 {}
 
-/// A best effort is maximal. An activation that it tried and that is not in the set to which it leads had a fault at its turn, beside
-/// those that had joined by then. Where no described controller precedes itself at some distance, one that had a fault at its turn has
-/// one beside the whole set too; so each that it tried is in the set, or could not join it by itself.
+/// A best effort is maximal. An activation that it tried and that is not in the set to which it leads had a fault at
+/// its turn, beside those that had joined by then. Where no described controller precedes itself at some distance, one
+/// that had a fault at its turn has one beside the whole set too; so each that it tried is in the set, or could not
+/// join it by itself.
 pub fn a_best_effort_is_maximal()
     ensures at_its_turn { (scene : Scene) (off on : List Pick) (dropped : List Dropped) (set again : Places)
         → best scene off on ≡ done dropped set again → (before : List Member) (m : Member) (after : List Member)

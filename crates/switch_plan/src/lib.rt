@@ -1,5 +1,5 @@
-//! Plans of switches: what becomes of a request, and which controllers are deactivated and activated for it, in which order.
-//! A plan is exactly the one of the written rules; nothing is done here.
+//! Plans of switches: what becomes of a request, and which controllers are deactivated and activated for it, in which
+//! order. A plan is exactly the one of the written rules; nothing is done here.
 #![tactic(auto)]
 
 pub use relations::Relations;

@@ -29,9 +29,9 @@ pub enum Listed {
     Faulty(Dropped),
 }
 
-/// What speaks against a controller of the list to deactivate, or, if it is told which controllers leave, of the list to
-/// activate. It was looked up by this name, and those before it were met. Whether the name stands among these is asked of
-/// the set of places; the list before it serves the contract alone.
+/// What speaks against a controller of the list to deactivate, or, if it is told which controllers leave, of the list
+/// to activate. It was looked up by this name, and those before it were met. Whether the name stands among these is
+/// asked of the set of places; the list before it serves the contract alone.
 fn list_fault(
     view: &View,
     leaving: Option<&PlaceSet>,

@@ -1,8 +1,10 @@
 //! Loaded controllers, by name.
 
-ghost use Rattle.std.specs.Prelude.{◌≡◌, ◌<◌, ◌^◌, not, ◌&&◌, ◌==◌, ◌++◌, ◌∷◌, [], length, if◌then◌else◌, map, filter, find, Option, option_map, IfOk, IfSome, OnOk, All};
+ghost use Rattle.std.specs.Prelude.{◌≡◌, ◌<◌, ◌^◌, not, ◌&&◌, ◌==◌, ◌++◌, ◌∷◌, [], length, if◌then◌else◌};
+ghost use Rattle.std.specs.Prelude.{map, filter, find, Option, option_map, IfOk, IfSome, OnOk, All};
 ghost use Rattle.std.specs.List.{list_any};
-ghost use Rattle.cm_model.specs.Scene.{controllers_in, is_running, is_configured, is_ready, loaded_of, loaded_all, member};
+ghost use Rattle.cm_model.specs.Scene.{controllers_in, is_running, is_configured};
+ghost use Rattle.cm_model.specs.Scene.{is_ready, loaded_of, loaded_all, member};
 ghost use Rattle.switch_plan.specs.Calls.Members.{IsLoadedAs};
 ghost use Rattle.switch_plan.specs.View.{scene_of, IsView, IsPlace, HavePlaces};
 

@@ -1,4 +1,5 @@
-//! Which controllers have to do with which, worked out of a description once: a request then looks up no name of an interface.
+//! Which controllers have to do with which, worked out of a description once: a request then looks up no name of an
+//! interface.
 
 ghost use Rattle.std.specs.Prelude.{◌≡◌, ◌<◌, ◌^◌, ◌++◌, not, ◌&&◌, ◌||◌, ◌==◌, length, filter_map, IfOk, OnOk};
 ghost use Rattle.std.specs.List.{list_any};
@@ -16,8 +17,8 @@ use sequence::Seq;
 use std::alloc::Global;
 use std::marker::Model;
 
-/// For each described controller, by place, whom and what it has to do with. It rests on the description alone, and is made once for all
-/// requests.
+/// For each described controller, by place, whom and what it has to do with. It rests on the description alone, and is
+/// made once for all requests.
 #[derive(Drop)]
 pub struct Relations {
     /// Those that precede it.

@@ -21,9 +21,9 @@ use cm_model::Planned;
 use fixed_num::Memory;
 use std::alloc::Global;
 
-/// What becomes of a switch request, and which controllers are deactivated and activated for it, in which order: the switch rules,
-/// docs/RULES.md. Each loaded controller of the view has its place in the description, and they stand by serial. Interfaces are looked
-/// up by name.
+/// What becomes of a switch request, and which controllers are deactivated and activated for it, in which order: the
+/// switch rules, docs/RULES.md. Each loaded controller of the view has its place in the description, and they stand by
+/// serial. Interfaces are looked up by name.
 pub fn plan(alloc: Global, view: &View, request: &SwitchRequest) -> Result<Planned, Memory>
     requires { IsView view.now }
     ensures { IfOk result (λ plan. plan ≡ plan_of (scene_of view.now) request.now) }
@@ -69,8 +69,8 @@ fn plan_over(
     decided(alloc, &setting, request)
 }
 
-/// What becomes of a switch request, once it is known what the decision rests on. Lists without a group are flat as they
-/// stand.
+/// What becomes of a switch request, once it is known what the decision rests on. Lists without a group are flat as
+/// they stand.
 fn decided(alloc: Global, setting: &Setting, request: &SwitchRequest) -> Result<Planned, Memory>
     requires { IsSetting setting.now }
     ensures { IfOk result (λ plan. plan ≡ plan_of (set_scene setting.now) request.now) }

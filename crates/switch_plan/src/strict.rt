@@ -4,7 +4,8 @@ ghost use Rattle.std.specs.Prelude.{◌≡◌, ◌<◌, length, None, IsTrue, If
 ghost use Rattle.cm_model.specs.Order.{set_of, places_of};
 ghost use Rattle.cm_model.specs.Scene.{controllers_in};
 ghost use Rattle.cm_model.specs.Faults.{first_of};
-ghost use Rattle.cm_model.specs.Switches.{counts_for_all, counted, counted_of, first_member_fault, strict_between, strict, planned};
+ghost use Rattle.cm_model.specs.Switches.{counts_for_all, counted, counted_of};
+ghost use Rattle.cm_model.specs.Switches.{first_member_fault, strict_between, strict, planned};
 ghost use Rattle.switch_plan.specs.View.{scene_of, IsPlace, HavePlaces, HasFlags};
 ghost use Rattle.switch_plan.specs.Settings.{set_scene, IsSetting};
 ghost use Rattle.switch_plan.specs.Proposals.{proposal_scene, proposed, asked_on, IsProposal};
@@ -81,8 +82,8 @@ fn strict_between(
     Ok(plan)
 }
 
-/// The fault that counts and comes first, of the members of a set of which these are to be activated. Where the relations show at once
-/// that there is none, no order is worked out.
+/// The fault that counts and comes first, of the members of a set of which these are to be activated. Where the
+/// relations show at once that there is none, no order is worked out.
 fn member_fault(
     alloc: Global,
     setting: &Setting,

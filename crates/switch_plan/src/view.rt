@@ -7,8 +7,8 @@ ghost use Rattle.switch_plan.specs.View.{scene_of, IsPlace};
 use cm_document::{Checked, CtlDesc, Life};
 use cm_model::Seen;
 
-/// What a switch is decided by: the description, the loaded controllers by serial, and the lifecycle state of each component, at its
-/// place.
+/// What a switch is decided by: the description, the loaded controllers by serial, and the lifecycle state of each
+/// component, at its place.
 #[derive(Clone, Copy)]
 pub struct View<'a> {
     /// The description.

@@ -1,5 +1,7 @@
--- How the entries of a session go on: behind each entry that gave a ticket stands its Told, and no Told stands elsewhere.
-use Rattle.std.proofs.Common.{◌≡◌, ℕ, Bool, true, false, List, [], ◌∷◌, ◌++◌, drop, Option, Some, None, refl, sym, ap, subst, ◌∙◌, inl, inr, true≢false}
+-- How the entries of a session go on: behind each entry that gave a ticket stands its Told, and no Told stands
+-- elsewhere.
+use Rattle.std.proofs.Common.{◌≡◌, ℕ, Bool, true, false, List, [], ◌∷◌, ◌++◌, drop, Option}
+use Rattle.std.proofs.Common.{Some, None, refl, sym, ap, subst, ◌∙◌, inl, inr, true≢false}
 use Rattle.std.specs.Prelude.{flat_map, slice_get, if◌then◌else◌}
 use Rattle.std.proofs.lemmas.Bool.{cases_Bool}
 use Rattle.std.proofs.lemmas.Option.{same_Some}
@@ -10,7 +12,8 @@ use Rattle.cm_model.specs.Sessions.{calls_of, is_told, told_of, with_its_told, a
 use Rattle.cm_model.specs.declared.entry.Entry.{Entry}
 use Rattle.trace_laws.specs.Next.{ticket_given, ticket_after}
 
--- From here on, with this ticket to be told of, the entries go on so: first its Told, then any other call, and behind that again.
+-- From here on, with this ticket to be told of, the entries go on so: first its Told, then any other call, and behind
+-- that again.
 abbrev pub Goes : List Entry → Option ℕ → Type 0
 Goes [] ticket = Unit {0}
 Goes (e ∷ es) (Some ticket) = (e.call ≡ Told ticket) × Goes es None
@@ -42,21 +45,24 @@ first_asked [] f fs same = cc
 first_asked (e ∷ es) f fs same = elim (cases_Bool (is_told e.call)) [
   | inl told ↦ first_asked es f fs (sym (asked_past e es told) ∙ same)
   | inr other ↦
-      let first : e ≡ f = same_Some e f (ap (λ (l : List Entry). slice_get l 0) (sym (asked_first e es other) ∙ same)) in
+      let first : e ≡ f =
+      same_Some e f (ap (λ (l : List Entry). slice_get l 0) (sym (asked_first e es other) ∙ same)) in
       ap (λ (each : Entry). is_told each.call) (sym first) ∙ other
 ]
 
 -- ---- What follows its lines goes on so
 
 -- the calls of what is asked do not begin with a Told
-no_told_first : (asked_ones : List Entry) (call : Call) (calls : List Call) → ((f : Entry) (fs : List Entry) → asked_ones ≡ f ∷ fs → is_told f.call ≡ false)
+no_told_first : (asked_ones : List Entry) (call : Call) (calls : List Call)
+    → ((f : Entry) (fs : List Entry) → asked_ones ≡ f ∷ fs → is_told f.call ≡ false)
     → call ∷ calls ≡ flat_map with_its_told asked_ones → is_told call ≡ false
 no_told_first [] call calls none same = cc
 no_told_first (f ∷ fs) call calls none same =
     let first : call ≡ f.call = same_Some call f.call (ap (λ (l : List Call). slice_get l 0) same) in
     ap is_told first ∙ none f fs refl
 
-pub goes_from : (es : List Entry) (ticket : Option ℕ) → calls_of es ≡ told_of ticket ++ flat_map with_its_told (asked es) → Goes es ticket
+pub goes_from : (es : List Entry) (ticket : Option ℕ)
+    → calls_of es ≡ told_of ticket ++ flat_map with_its_told (asked es) → Goes es ticket
 goes_from [] ticket same = tt
 goes_from (e ∷ es) (Some ticket) same =
     let told : e.call ≡ Told ticket = same_Some e.call (Told ticket) (ap (λ (l : List Call). slice_get l 0) same) in
@@ -72,7 +78,8 @@ goes_from (e ∷ es) None same = elim (cases_Bool (is_told e.call)) [
 ]
 
 -- at their end no ticket is left
-pub none_left : (es : List Entry) (ticket : Option ℕ) → calls_of es ≡ told_of ticket ++ flat_map with_its_told (asked es) → ticket_after ticket es ≡ None
+pub none_left : (es : List Entry) (ticket : Option ℕ)
+    → calls_of es ≡ told_of ticket ++ flat_map with_its_told (asked es) → ticket_after ticket es ≡ None
 none_left [] None same = refl
 none_left [] (Some ticket) same = cc
 none_left (e ∷ es) (Some ticket) same =
@@ -91,20 +98,25 @@ none_left (e ∷ es) None same = elim (cases_Bool (is_told e.call)) [
 ]
 
 -- and what goes on so, and leaves none, has each Told where it belongs
-pub told_each : (es : List Entry) (ticket : Option ℕ) → Goes es ticket → ticket_after ticket es ≡ None → calls_of es ≡ told_of ticket ++ flat_map with_its_told (asked es)
+pub told_each : (es : List Entry) (ticket : Option ℕ) → Goes es ticket → ticket_after ticket es ≡ None
+    → calls_of es ≡ told_of ticket ++ flat_map with_its_told (asked es)
 told_each [] None goes none = refl
 told_each [] (Some ticket) goes none = cc
 told_each (e ∷ es) (Some ticket) goes none =
-    let rest = told_each es None goes.1 (ap (λ given. ticket_after given es) (sym (told_gives e ticket goes.0)) ∙ none) in
-    ap (λ call. call ∷ calls_of es) goes.0 ∙ ap (λ calls. Told ticket ∷ calls) (rest ∙ ap (flat_map with_its_told) (sym (asked_past e es (ap is_told goes.0))))
+    let rest = told_each es None goes.1
+    (ap (λ given. ticket_after given es) (sym (told_gives e ticket goes.0)) ∙ none) in
+    ap (λ call. call ∷ calls_of es) goes.0
+    ∙ ap (λ calls. Told ticket ∷ calls) (rest ∙ ap (flat_map with_its_told) (sym (asked_past e es (ap is_told goes.0))))
 told_each (e ∷ es) None goes none =
-    let rest = told_each es (ticket_in e.reply) goes.1 (ap (λ given. ticket_after given es) (sym (asked_gives e goes.0)) ∙ none) in
+    let rest = told_each es (ticket_in e.reply) goes.1
+    (ap (λ given. ticket_after given es) (sym (asked_gives e goes.0)) ∙ none) in
     ap (λ calls. e.call ∷ calls) rest ∙ ap (flat_map with_its_told) (sym (asked_first e es goes.0))
 
 -- ---- Parts
 
 -- a beginning goes on so, and the rest from where it leads
-pub goes_split : (xs ys : List Entry) (ticket : Option ℕ) → Goes (xs ++ ys) ticket → Goes xs ticket × Goes ys (ticket_after ticket xs)
+pub goes_split : (xs ys : List Entry) (ticket : Option ℕ) → Goes (xs ++ ys) ticket
+    → Goes xs ticket × Goes ys (ticket_after ticket xs)
 goes_split [] ys ticket goes = (tt, goes)
 goes_split (x ∷ xs) ys (Some ticket) goes =
     let rest = goes_split xs ys None goes.1 in
@@ -114,14 +126,22 @@ goes_split (x ∷ xs) ys None goes =
     ((goes.0, rest.0), subst (λ given. Goes ys (ticket_after given xs)) (sym (asked_gives x goes.0)) rest.1)
 
 -- both go on as one
-pub goes_join : (xs ys : List Entry) (ticket : Option ℕ) → Goes xs ticket → Goes ys (ticket_after ticket xs) → Goes (xs ++ ys) ticket
+pub goes_join : (xs ys : List Entry) (ticket : Option ℕ) → Goes xs ticket → Goes ys (ticket_after ticket xs)
+    → Goes (xs ++ ys) ticket
 goes_join [] ys ticket first last = last
-goes_join (x ∷ xs) ys (Some ticket) first last =
-    (first.0, goes_join xs ys None first.1 (subst (λ given. Goes ys (ticket_after given xs)) (told_gives x ticket first.0) last))
-goes_join (x ∷ xs) ys None first last =
-    (first.0, goes_join xs ys (ticket_in x.reply) first.1 (subst (λ given. Goes ys (ticket_after given xs)) (asked_gives x first.0) last))
+goes_join (x ∷ xs) ys (Some ticket) first last = (
+  first.0,
+  goes_join xs ys None first.1
+      (subst (λ given. Goes ys (ticket_after given xs)) (told_gives x ticket first.0) last),
+)
+goes_join (x ∷ xs) ys None first last = (
+  first.0,
+  goes_join xs ys (ticket_in x.reply) first.1
+      (subst (λ given. Goes ys (ticket_after given xs)) (asked_gives x first.0) last),
+)
 
 -- the ticket that is left is that of the last part
-pub ticket_past : (xs ys : List Entry) (ticket : Option ℕ) → ticket_after ticket (xs ++ ys) ≡ ticket_after (ticket_after ticket xs) ys
+pub ticket_past : (xs ys : List Entry) (ticket : Option ℕ)
+    → ticket_after ticket (xs ++ ys) ≡ ticket_after (ticket_after ticket xs) ys
 ticket_past [] ys ticket = refl
 ticket_past (x ∷ xs) ys ticket = ticket_past xs ys (ticket_given x)

@@ -42,11 +42,14 @@ module _ (sessions : List SessionText) (names : Names) where
 
   front_printed : (e : Entry) → IsPrintedEntry e → IsPrinted (front_text e)
   front_printed e printed =
-      let called = between (caller_text sessions e.who) (codes " ") (call_text e.call) printed.caller space printed.call in
-      between (caller_text sessions e.who ++ codes " " ++ call_text e.call) (codes ": ") (reply_text names e.reply) called (word_printed (codes ": ") refl) printed.reply
+      let called =
+      between (caller_text sessions e.who) (codes " ") (call_text e.call) printed.caller space printed.call in
+      between (caller_text sessions e.who ++ codes " " ++ call_text e.call) (codes ": ") (reply_text names e.reply)
+      called (word_printed (codes ": ") refl) printed.reply
 
   -- so the lines of a text of entries are those of the entries
-  pub lines_of_printed : (es : List Entry) → AllByRecursion IsPrintedEntry es → raw_lines (flat_map (line_text sessions names) es) ≡ map (line_text sessions names) es
+  pub lines_of_printed : (es : List Entry) → AllByRecursion IsPrintedEntry es
+      → raw_lines (flat_map (line_text sessions names) es) ≡ map (line_text sessions names) es
   lines_of_printed [] printed = refl
   lines_of_printed (e ∷ es) printed =
       let front = front_text e in
@@ -60,26 +63,36 @@ module _ (sessions : List SessionText) (names : Names) where
 
 -- ---- Along a history
 
-each_entry : (sessions : List SessionText) (names : Names) (es : List Entry) → AllByRecursion (λ (e : Entry). IsPrinted (caller_text sessions e.who)) es
-    → AllByRecursion (λ (e : Entry). IsPrinted (call_text e.call)) es → AllByRecursion (λ (e : Entry). IsPrinted (reply_text names e.reply)) es
+each_entry : (sessions : List SessionText) (names : Names) (es : List Entry)
+    → AllByRecursion (λ (e : Entry). IsPrinted (caller_text sessions e.who)) es
+    → AllByRecursion (λ (e : Entry). IsPrinted (call_text e.call)) es
+    → AllByRecursion (λ (e : Entry). IsPrinted (reply_text names e.reply)) es
     → AllByRecursion (IsPrintedEntry sessions names) es
 each_entry sessions names [] callers calls replies = tt
-each_entry sessions names (e ∷ es) callers calls replies =
-    (record { caller = callers.0; call = calls.0; reply = replies.0 }, each_entry sessions names es callers.1 calls.1 replies.1)
+each_entry sessions names (e ∷ es) callers calls replies = (
+  record { caller = callers.0; call = calls.0; reply = replies.0 },
+  each_entry sessions names es callers.1 calls.1 replies.1,
+)
 
-boot_prints : (d : Description) (blanks : Blanks) (sessions : ℕ) → DescriptionPrints d → StatePrints (boot d blanks sessions)
+boot_prints : (d : Description) (blanks : Blanks) (sessions : ℕ) → DescriptionPrints d
+    → StatePrints (boot d blanks sessions)
 boot_prints d blanks sessions described = record { described = described; requests = tt; outcomes = tt; fallbacks = tt }
 
-names_print : (d : Description) (history : List Entry) → DescriptionPrints d → AllByRecursion (λ (e : Entry). IsSaid e.call) history → NamesPrint (names_in d history)
+names_print : (d : Description) (history : List Entry) → DescriptionPrints d
+    → AllByRecursion (λ (e : Entry). IsSaid e.call) history → NamesPrint (names_in d history)
 names_print d history described said = record {
   controllers = names_printed history said;
   components = described.components;
-  joints = all_map IsPrinted (λ (j : JointDesc). j.name) (joints_of d.components) (joints_print d.components described.components);
-  interfaces = all_map IsPrinted (λ (i : Interface). interface_text i.called.name) (interfaces_of d) (interfaces_print d described);
+  joints = all_map IsPrinted (λ (j : JointDesc). j.name) (joints_of d.components)
+      (joints_print d.components described.components);
+  interfaces =
+      all_map IsPrinted (λ (i : Interface). interface_text i.called.name) (interfaces_of d)
+      (interfaces_print d described);
 }
 
 -- each entry of a legal history that is on its way
-pub entries_printed : (document : Document) (blanks : Blanks) (history : List Entry) → IsValid document.description → MeetsRules document.script
+pub entries_printed : (document : Document) (blanks : Blanks) (history : List Entry) → IsValid document.description
+    → MeetsRules document.script
     → IsLegal document.description blanks (length document.script.sessions) history → IsOnItsWay document history
     → AllByRecursion (IsPrintedEntry document.script.sessions (names_in document.description history)) history
 entries_printed document blanks history valid rules legal way =
@@ -90,14 +103,20 @@ entries_printed document blanks history valid rules legal way =
     let names = names_in d history in
     each_entry sessions names history
     (all_so (λ (e : Entry). e.who ≤ length sessions) (λ (e : Entry). IsPrinted (caller_text sessions e.who))
-    (λ e few. shown_IsPrinted (caller_text sessions e.who) (caller_shown document.script rules e.who few)) history way.nobody_else)
-    (all_so (λ (e : Entry). IsSaid e.call) (λ (e : Entry). IsPrinted (call_text e.call)) (λ e is. call_printed e.call is) history said)
-    (replies_printed names (names_print d history described said) (boot d blanks (length sessions)) history (boot_prints d blanks (length sessions) described) legal said)
+    (λ e few. shown_IsPrinted (caller_text sessions e.who) (caller_shown document.script rules e.who few)) history
+    way.nobody_else)
+    (all_so (λ (e : Entry). IsSaid e.call) (λ (e : Entry). IsPrinted (call_text e.call))
+    (λ e is. call_printed e.call is) history said)
+    (replies_printed names (names_print d history described said) (boot d blanks (length sessions)) history
+    (boot_prints d blanks (length sessions) described) legal said)
 
 -- so its trace has a line for each
-pub lines_of_history : (document : Document) (blanks : Blanks) (history : List Entry) → IsValid document.description → MeetsRules document.script
+pub lines_of_history : (document : Document) (blanks : Blanks) (history : List Entry) → IsValid document.description
+    → MeetsRules document.script
     → IsLegal document.description blanks (length document.script.sessions) history → IsOnItsWay document history
-    → raw_lines (output document history) ≡ map (line_text document.script.sessions (names_in document.description history)) history
+    → raw_lines (output document history)
+    ≡ map (line_text document.script.sessions (names_in document.description history)) history
 unfolding output
 lines_of_history document blanks history valid rules legal way =
-    lines_of_printed document.script.sessions (names_in document.description history) history (entries_printed document blanks history valid rules legal way)
+    lines_of_printed document.script.sessions (names_in document.description history) history
+    (entries_printed document blanks history valid rules legal way)

@@ -1,5 +1,6 @@
 -- Each call of a history that is on its way is one that a line says, or one that needs no line.
-use Rattle.std.proofs.Common.{◌≡◌, ℕ, zero, suc, Bool, true, false, List, [], ◌∷◌, ◌++◌, length, drop, Option, Some, None, refl, sym, subst, append_assoc}
+use Rattle.std.proofs.Common.{◌≡◌, ℕ, zero, suc, Bool, true, false, List, [], ◌∷◌, ◌++◌, length}
+use Rattle.std.proofs.Common.{drop, Option, Some, None, refl, sym, subst, append_assoc}
 use Rattle.std.specs.Prelude.{◌==◌, slice_get, if◌then◌else◌, codes, decimal, IfSome}
 use Rattle.std.specs.List.{AllByRecursion}
 use Rattle.std.proofs.lemmas.Option.{same_Some}
@@ -36,7 +37,8 @@ can_said Close can = tt
 can_said _ can = can
 
 -- a session's next call
-next_said : (ticket : Option ℕ) (lines : List Call) (call : Call) → AllByRecursion CanBeWritten lines → next_call ticket lines ≡ Some call → IsSaid call
+next_said : (ticket : Option ℕ) (lines : List Call) (call : Call) → AllByRecursion CanBeWritten lines
+    → next_call ticket lines ≡ Some call → IsSaid call
 next_said (Some ticket) lines call can next = subst IsSaid (same_Some (Told ticket) call next) tt
 next_said None [] call can next = cc
 next_said None (line ∷ lines) call can next = subst IsSaid (same_Some line call next) (can_said line can.0)
@@ -57,20 +59,26 @@ module _ (document : Document) (rules : MeetsRules document.script) where
       es = entries_by who history
 
       of : (b : Bool) → (if b then next_of_loop document.description.cycles es else None) ≡ Some call → IsSaid call
-      of true next = all_at IsSaid (loop_calls document.description.cycles) (length es) call (loop_said document.description.cycles) next
+      of true next =
+          all_at IsSaid (loop_calls document.description.cycles) (length es) call
+          (loop_said document.description.cycles) next
       of false next = cc
 
-  by_said : (history : List Entry) (who : ℕ) (call : Call) (o : Option SessionText) → IfSome o IsSession → next_by document history who o ≡ Some call → IsSaid call
+  by_said : (history : List Entry) (who : ℕ) (call : Call) (o : Option SessionText) → IfSome o IsSession
+      → next_by document history who o ≡ Some call → IsSaid call
   by_said history who call None is next = past_said history who call next
   by_said history who call (Some session) is next =
       let es = entries_by who history in
-      next_said (ticket_after None es) (drop (length (asked es)) session.lines) call (all_drop CanBeWritten (length (asked es)) session.lines is.written) next
+      next_said (ticket_after None es) (drop (length (asked es)) session.lines) call
+      (all_drop CanBeWritten (length (asked es)) session.lines is.written) next
 
   -- each call of a history that is on its way
-  pub said_behind : (before later : List Entry) → IsOnItsWay document (before ++ later) → AllByRecursion (λ (e : Entry). IsSaid e.call) later
+  pub said_behind : (before later : List Entry) → IsOnItsWay document (before ++ later)
+      → AllByRecursion (λ (e : Entry). IsSaid e.call) later
   said_behind before [] way = tt
   said_behind before (e ∷ es) way = (
-    by_said before e.who e.call (slice_get document.script.sessions e.who) (got_so IsSession document.script.sessions rules.sessions e.who) (next_is document before es e way),
+    by_said before e.who e.call (slice_get document.script.sessions e.who)
+        (got_so IsSession document.script.sessions rules.sessions e.who) (next_is document before es e way),
     said_behind (before ++ e ∷ []) es (subst (IsOnItsWay document) (sym (append_assoc before (e ∷ []) es)) way),
   )
 
@@ -81,12 +89,16 @@ written_printed call can =
     let says = call_says call can in
     let shape = says.2.shape in
     subst IsPrinted (sym says.2.text)
-    (IsPrinted-append says.0 (spaced says.1) (shown_IsPrinted says.0 shape.first.shown) (spaced_IsPrinted says.1 shape.others))
+    (IsPrinted-append says.0 (spaced says.1) (shown_IsPrinted says.0 shape.first.shown)
+    (spaced_IsPrinted says.1 shape.others))
 
 pub call_printed : (call : Call) → IsSaid call → IsPrinted (call_text call)
-call_printed (Told ticket) said = IsPrinted-append (codes "told ") (decimal ticket) (word_printed (codes "told ") refl) (decimal_printed ticket)
-call_printed (Begin number) said = IsPrinted-append (codes "begin ") (decimal number) (word_printed (codes "begin ") refl) (decimal_printed number)
-call_printed (End number) said = IsPrinted-append (codes "end ") (decimal number) (word_printed (codes "end ") refl) (decimal_printed number)
+call_printed (Told ticket) said =
+    IsPrinted-append (codes "told ") (decimal ticket) (word_printed (codes "told ") refl) (decimal_printed ticket)
+call_printed (Begin number) said =
+    IsPrinted-append (codes "begin ") (decimal number) (word_printed (codes "begin ") refl) (decimal_printed number)
+call_printed (End number) said =
+    IsPrinted-append (codes "end ") (decimal number) (word_printed (codes "end ") refl) (decimal_printed number)
 call_printed Close said = word_printed (codes "close") refl
 call_printed call said = written_printed call said
 
@@ -100,7 +112,9 @@ loaded_printed : (call : Call) (r : Reply) → IsSaid call → IfSome (loaded_by
 loaded_printed call (reply.Serial serial) said = load_printed call said
 loaded_printed call _ said = tt
 
-pub names_printed : (history : List Entry) → AllByRecursion (λ (e : Entry). IsSaid e.call) history → AllByRecursion IsPrinted (names_of history)
+pub names_printed : (history : List Entry) → AllByRecursion (λ (e : Entry). IsSaid e.call) history
+    → AllByRecursion IsPrinted (names_of history)
 names_printed history said =
     each_found_so IsPrinted (λ (e : Entry). loaded_by e.call e.reply) history
-    (all_so (λ (e : Entry). IsSaid e.call) (λ (e : Entry). IfSome (loaded_by e.call e.reply) IsPrinted) (λ e is. loaded_printed e.call e.reply is) history said)
+    (all_so (λ (e : Entry). IsSaid e.call) (λ (e : Entry). IfSome (loaded_by e.call e.reply) IsPrinted)
+    (λ e is. loaded_printed e.call e.reply is) history said)

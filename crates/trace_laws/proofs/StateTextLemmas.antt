@@ -1,5 +1,7 @@
--- Along a legal history all that a state tells prints without a byte that ends a line: its requests, their outcomes, and those that stand in.
-use Rattle.std.proofs.Common.{◌≡◌, ℕ, zero, suc, List, [], ◌∷◌, ◌++◌, length, drop, map, Option, Some, None, refl, sym, subst}
+-- Along a legal history all that a state tells prints without a byte that ends a line: its requests, their outcomes,
+-- and those that stand in.
+use Rattle.std.proofs.Common.{◌≡◌, ℕ, zero, suc, List, [], ◌∷◌, ◌++◌, length}
+use Rattle.std.proofs.Common.{drop, map, Option, Some, None, refl, sym, subst}
 use Rattle.std.specs.Prelude.{◌==◌, find, slice_get, option_map}
 use Rattle.std.specs.List.{AllByRecursion}
 use Rattle.std.specs.Option.{option_map_or}
@@ -7,7 +9,8 @@ use Rattle.sequence.proofs.ListLemmas.{all_append, all_push}
 use Rattle.cm_document.proofs.DistinctLemmas.{all_of, all_so, all_map, all_flat_map}
 use Rattle.cm_document.specs.ScriptLaws.{IsPick, CanBeWritten}
 use Rattle.cm_document.specs.declared.call.Call.{Call}
-use Rattle.cm_document.specs.declared.call.Call.TheVariants.{Load, Configure, Cleanup, Unload, Rate, Send, Switch, Hardware, Told, Begin, End, Close}
+use Rattle.cm_document.specs.declared.call.Call.TheVariants.{Load, Configure, Cleanup, Unload, Rate, Send}
+use Rattle.cm_document.specs.declared.call.Call.TheVariants.{Switch, Hardware, Told, Begin, End, Close}
 use Rattle.cm_document.specs.declared.call.Pick.{Pick}
 use Rattle.cm_document.specs.declared.call.Pick.TheVariants.{One, Group}
 use Rattle.cm_document.specs.declared.description.CtlDesc.{CtlDesc}
@@ -15,9 +18,12 @@ use Rattle.cm_document.specs.declared.life.Life.{Life}
 use Rattle.cm_model.proofs.StayLemmas.{effect-Stands}
 use Rattle.cm_model.proofs.WaitingLemmas.{boundary-requests}
 use Rattle.cm_model.specs.BestEffort.{decided}
-use Rattle.cm_model.specs.Boundary.{waiting, request_effect, with_switch, component_place, move_fault, with_move_unless, with_move, concluded, with_outcome, all_concluded, standing_in, after_standing_in, after_fallbacks, boundary}
+use Rattle.cm_model.specs.Boundary.{waiting, request_effect, with_switch, component_place, move_fault}
+use Rattle.cm_model.specs.Boundary.{with_move_unless, with_move, concluded, with_outcome, all_concluded}
+use Rattle.cm_model.specs.Boundary.{standing_in, after_standing_in, after_fallbacks, boundary}
 use Rattle.cm_model.specs.Commit.{scene_of, described_of, commit}
-use Rattle.cm_model.specs.Console.{place_of, slot_of, after_configure, after_cleanup, after_rate, after_send, where_done, with_slot, with_changed, without_slot}
+use Rattle.cm_model.specs.Console.{place_of, slot_of, after_configure, after_cleanup, after_rate}
+use Rattle.cm_model.specs.Console.{after_send, where_done, with_slot, with_changed, without_slot}
 use Rattle.cm_model.specs.Cycle.{erred_in, fallbacks_of, fallbacks_after, cycle, after_cycle}
 use Rattle.cm_model.specs.Machine.{with_controller, with_loaded, load_effect, effect}
 use Rattle.cm_model.specs.State.{State, Loaded}
@@ -59,31 +65,37 @@ unfolding commit
 switch_described s (refused because) = refl
 switch_described s (done dropped set again) = refl
 
-unless_described : (s : State) (name : List ℕ) (component : ℕ) (target : Life) (o : Option Cause) → (with_move_unless s name component target o).state.description ≡ s.description
+unless_described : (s : State) (name : List ℕ) (component : ℕ) (target : Life) (o : Option Cause)
+    → (with_move_unless s name component target o).state.description ≡ s.description
 unless_described s name component target None = refl
 unless_described s name component target (Some reason) = refl
 
-move_described : (s : State) (name : List ℕ) (target : Life) (place : Option ℕ) → (with_move s name target place).state.description ≡ s.description
+move_described : (s : State) (name : List ℕ) (target : Life) (place : Option ℕ)
+    → (with_move s name target place).state.description ≡ s.description
 move_described s name target None = refl
 move_described s name target (Some component) = unless_described s name component target (move_fault s component target)
 
 concluded_described : (s : State) (asked : Request) → (concluded s asked).state.description ≡ s.description
 concluded_described s (request.Switch asked) = switch_described s (decided (scene_of s) asked)
-concluded_described s (request.Hardware component target) = move_described s component target (component_place s.description component)
+concluded_described s (request.Hardware component target) =
+    move_described s component target (component_place s.description component)
 
 standing_described : (s : State) (names : List (List ℕ)) → (after_standing_in s names).description ≡ s.description
 standing_described s [] = refl
 standing_described s (name ∷ names) = concluded_described (record s { fallbacks = [] }) (standing_in (name ∷ names))
 
 -- and what becomes of it prints
-all_outcomes : (s : State) (asked : List Request) → DescriptionPrints s.description → AllByRecursion RequestPrints asked → AllByRecursion OutcomePrints s.outcomes
+all_outcomes : (s : State) (asked : List Request) → DescriptionPrints s.description → AllByRecursion RequestPrints asked
+    → AllByRecursion OutcomePrints s.outcomes
     → AllByRecursion OutcomePrints (all_concluded s asked).outcomes
 unfolding all_concluded
 all_outcomes s [] described all outcomes = outcomes
 all_outcomes s (one ∷ later) described all outcomes =
     let conclusion = concluded s one in
-    all_outcomes (with_outcome conclusion) later (subst DescriptionPrints (sym (concluded_described s one)) described) all.1
-    (all_push OutcomePrints conclusion.state.outcomes conclusion.outcome (subst (AllByRecursion OutcomePrints) (sym (concluded_keeps s one)) outcomes)
+    all_outcomes (with_outcome conclusion) later (subst DescriptionPrints (sym (concluded_described s one)) described)
+    all.1
+    (all_push OutcomePrints conclusion.state.outcomes conclusion.outcome
+    (subst (AllByRecursion OutcomePrints) (sym (concluded_keeps s one)) outcomes)
     (concluded_prints s described one all.0))
 
 pub all_drop : {A : Type 0} (P : A → Type 0) (n : ℕ) (xs : List A) → AllByRecursion P xs → AllByRecursion P (drop n xs)
@@ -102,21 +114,28 @@ pub record StatePrints (s : State) : Type 0 where
 
 pub boundary_prints : (s : State) → StatePrints s → AllByRecursion OutcomePrints (boundary s).outcomes
 boundary_prints s prints =
-    all_outcomes (after_fallbacks s) (waiting (after_fallbacks s)) (subst DescriptionPrints (sym (standing_described s s.fallbacks)) prints.described)
-    (subst (AllByRecursion RequestPrints) (sym (waiting_stays s)) (all_drop RequestPrints (length s.outcomes) s.requests prints.requests))
+    all_outcomes (after_fallbacks s) (waiting (after_fallbacks s))
+    (subst DescriptionPrints (sym (standing_described s s.fallbacks)) prints.described)
+    (subst (AllByRecursion RequestPrints) (sym (waiting_stays s))
+    (all_drop RequestPrints (length s.outcomes) s.requests prints.requests))
     (subst (AllByRecursion OutcomePrints) (sym (standing_outcomes s s.fallbacks)) prints.outcomes)
 
-pub close_prints : (s : State) → StatePrints s → AllByRecursion OutcomePrints (s.outcomes ++ map (λ (asked : Request). outcome.LoopEnded) (waiting s))
+pub close_prints : (s : State) → StatePrints s
+    → AllByRecursion OutcomePrints (s.outcomes ++ map (λ (asked : Request). outcome.LoopEnded) (waiting s))
 close_prints s prints =
     all_append OutcomePrints s.outcomes (map (λ (asked : Request). outcome.LoopEnded) (waiting s)) prints.outcomes
-    (all_map OutcomePrints (λ (asked : Request). outcome.LoopEnded) (waiting s) (all_of _ (λ (asked : Request). tt) (waiting s)))
+    (all_map OutcomePrints (λ (asked : Request). outcome.LoopEnded) (waiting s)
+    (all_of _ (λ (asked : Request). tt) (waiting s)))
 
 -- those that are to stand in are described so
-fallbacks_print : (s : State) → DescriptionPrints s.description → (ran : List Ran) → AllByRecursion IsPrinted (fallbacks_after s ran)
+fallbacks_print : (s : State) → DescriptionPrints s.description → (ran : List Ran)
+    → AllByRecursion IsPrinted (fallbacks_after s ran)
 fallbacks_print s described ran =
-    all_flat_map IsPrinted (fallbacks_of s) (erred_in ran) (all_of _ (λ serial. of (find (λ (l : Loaded). l.serial == serial) s.loaded)) (erred_in ran))
+    all_flat_map IsPrinted (fallbacks_of s) (erred_in ran)
+    (all_of _ (λ serial. of (find (λ (l : Loaded). l.serial == serial) s.loaded)) (erred_in ran))
   where
-    of : (o : Option Loaded) → AllByRecursion IsPrinted (option_map_or (λ (l : Loaded). (described_of s l).fallback) o [])
+    of : (o : Option Loaded)
+        → AllByRecursion IsPrinted (option_map_or (λ (l : Loaded). (described_of s l).fallback) o [])
     of None = tt
     of (Some l) = (at_prints s.description.controllers described.controllers l.place).fallback
 
@@ -138,7 +157,8 @@ slot_keeps : (s : State) (i : ℕ) (o : Option Loaded) → (with_slot s i o).req
 slot_keeps s i None = refl
 slot_keeps s i (Some l) = refl
 
-changed_keeps : (s : State) (change : Loaded → Loaded) (slot : Option ℕ) → (with_changed change s slot).requests ≡ s.requests
+changed_keeps : (s : State) (change : Loaded → Loaded) (slot : Option ℕ)
+    → (with_changed change s slot).requests ≡ s.requests
 changed_keeps s change None = refl
 changed_keeps s change (Some i) = slot_keeps s i (option_map change (slice_get s.loaded i))
 
@@ -150,26 +170,40 @@ done_keeps : (s after : State) (r : Reply) → after.requests ≡ s.requests →
 done_keeps s after reply.Done keeps = keeps
 done_keeps s after _ keeps = refl
 
-asked_prints : (s : State) (asked : Request) (r : Reply) → AllByRecursion RequestPrints s.requests → RequestPrints asked → AllByRecursion RequestPrints (request_effect s asked r).requests
+asked_prints : (s : State) (asked : Request) (r : Reply) → AllByRecursion RequestPrints s.requests → RequestPrints asked
+    → AllByRecursion RequestPrints (request_effect s asked r).requests
 asked_prints s asked (reply.Queued ticket) all one = all_push RequestPrints s.requests asked all one
 asked_prints s asked _ all one = all
 
 -- after each plain call that is said the requests print
-plain_requests : (s : State) (call : Call) (r : Reply) → IsPlain call → IsSaid call → AllByRecursion RequestPrints s.requests → AllByRecursion RequestPrints (effect s call r).requests
-plain_requests s (Load name) r plain said all = subst (AllByRecursion RequestPrints) (sym (load_effect_keeps s name r)) all
+plain_requests : (s : State) (call : Call) (r : Reply) → IsPlain call → IsSaid call
+    → AllByRecursion RequestPrints s.requests → AllByRecursion RequestPrints (effect s call r).requests
+plain_requests s (Load name) r plain said all =
+    subst (AllByRecursion RequestPrints) (sym (load_effect_keeps s name r)) all
 plain_requests s (Configure name) r plain said all =
-    subst (AllByRecursion RequestPrints) (sym (done_keeps s (with_changed (after_configure s) s (slot_of s name)) r (changed_keeps s (after_configure s) (slot_of s name)))) all
+    subst (AllByRecursion RequestPrints)
+    (sym (done_keeps s (with_changed (after_configure s) s (slot_of s name)) r
+    (changed_keeps s (after_configure s) (slot_of s name)))) all
 plain_requests s (Cleanup name) r plain said all =
-    subst (AllByRecursion RequestPrints) (sym (done_keeps s (with_changed after_cleanup s (slot_of s name)) r (changed_keeps s after_cleanup (slot_of s name)))) all
+    subst (AllByRecursion RequestPrints)
+    (sym (done_keeps s (with_changed after_cleanup s (slot_of s name)) r
+    (changed_keeps s after_cleanup (slot_of s name)))) all
 plain_requests s (Unload name) r plain said all =
-    subst (AllByRecursion RequestPrints) (sym (done_keeps s (without_slot s (slot_of s name)) r (without_keeps s (slot_of s name)))) all
+    subst (AllByRecursion RequestPrints)
+    (sym (done_keeps s (without_slot s (slot_of s name)) r (without_keeps s (slot_of s name)))) all
 plain_requests s (Rate name hz) r plain said all =
-    subst (AllByRecursion RequestPrints) (sym (done_keeps s (with_changed (after_rate hz) s (slot_of s name)) r (changed_keeps s (after_rate hz) (slot_of s name)))) all
+    subst (AllByRecursion RequestPrints)
+    (sym (done_keeps s (with_changed (after_rate hz) s (slot_of s name)) r
+    (changed_keeps s (after_rate hz) (slot_of s name)))) all
 plain_requests s (Send name mail) r plain said all =
-    subst (AllByRecursion RequestPrints) (sym (done_keeps s (with_changed (after_send mail) s (slot_of s name)) r (changed_keeps s (after_send mail) (slot_of s name)))) all
+    subst (AllByRecursion RequestPrints)
+    (sym (done_keeps s (with_changed (after_send mail) s (slot_of s name)) r
+    (changed_keeps s (after_send mail) (slot_of s name)))) all
 plain_requests s (Switch asked) r plain said all =
-    asked_prints s (request.Switch asked) r all (all_so IsPick PickPrints pick_prints asked.on said.on, all_so IsPick PickPrints pick_prints asked.off said.off)
-plain_requests s (Hardware component target) r plain said all = asked_prints s (request.Hardware component target) r all (name_printed component said)
+    asked_prints s (request.Switch asked) r all
+    (all_so IsPick PickPrints pick_prints asked.on said.on, all_so IsPick PickPrints pick_prints asked.off said.off)
+plain_requests s (Hardware component target) r plain said all =
+    asked_prints s (request.Hardware component target) r all (name_printed component said)
 plain_requests s (Begin number) r plain said all = absurd plain
 plain_requests s (End number) r plain said all = absurd plain
 plain_requests s Close r plain said all = absurd plain
@@ -177,7 +211,8 @@ plain_requests s _ r plain said all = all
 
 -- ---- Each call
 
-plain_prints : (s : State) (call : Call) (r : Reply) → IsPlain call → IsSaid call → StatePrints s → StatePrints (effect s call r)
+plain_prints : (s : State) (call : Call) (r : Reply) → IsPlain call → IsSaid call → StatePrints s
+    → StatePrints (effect s call r)
 plain_prints s call r plain said prints =
     let stays = plain_stays s call r plain in
     record {

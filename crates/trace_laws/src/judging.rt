@@ -16,7 +16,8 @@ pub fn a_trace_has_one_history()
         → Prints document blanks text one → Prints document blanks text other → one ≡ other }
 {}
 
-/// To replay the lines of a text tells exactly whether it is the trace of a run, and else the line at which it goes wrong.
+/// To replay the lines of a text tells exactly whether it is the trace of a run, and else the line at which it goes
+/// wrong.
 pub fn replaying_a_text_judges_it()
     ensures told { (document : Document) (blanks : Blanks) (text : List ℕ)
         → IsValid document.description → MeetsRules document.script

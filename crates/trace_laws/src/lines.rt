@@ -12,8 +12,8 @@ ghost use Rattle.cm_model.specs.declared.entry.Entry.{Entry};
 ghost use Rattle.trace_laws.specs.Next.{entry_line};
 ghost use Rattle.trace_laws.specs.OnTheWay.{IsOnItsWay};
 
-/// An entry of a legal history prints the same however the history goes on: a reply names controllers that were loaded before it, and
-/// those have their names for good.
+/// An entry of a legal history prints the same however the history goes on: a reply names controllers that were loaded
+/// before it, and those have their names for good.
 pub fn an_entry_prints_the_same_however_the_history_goes_on()
     ensures { (document : Document) (blanks : Blanks) (history later : List Entry) (e : Entry)
         → IsLegal document.description blanks (length document.script.sessions) (history ++ e ∷ later)
@@ -21,7 +21,8 @@ pub fn an_entry_prints_the_same_however_the_history_goes_on()
         ≡ entry_line document history e }
 {}
 
-/// Each entry prints one line: the lines of the trace of a legal history that is on its way are those of its entries, one after another.
+/// Each entry prints one line: the lines of the trace of a legal history that is on its way are those of its entries,
+/// one after another.
 pub fn each_entry_prints_one_line()
     ensures { (document : Document) (blanks : Blanks) (history : List Entry)
         → IsValid document.description → MeetsRules document.script

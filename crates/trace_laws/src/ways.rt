@@ -18,7 +18,8 @@ pub fn whole_histories_are_on_their_way()
     ensures { (document : Document) (history : List Entry) → IsWhole document history → IsOnItsWay document history }
 {}
 
-/// The call that a caller makes next is fixed: in a history that is on its way each entry has the call that its caller had next.
+/// The call that a caller makes next is fixed: in a history that is on its way each entry has the call that its caller
+/// had next.
 pub fn what_comes_next_for_a_caller_is_fixed()
     ensures { (document : Document) (history later : List Entry) (e : Entry)
         → IsOnItsWay document (history ++ e ∷ later) → next_of document history e.who ≡ Some e.call }

@@ -1,5 +1,6 @@
 -- Items that are added part by part are all items, joined.
-use Rattle.std.proofs.Common.{◌≡◌, ℕ, Bool, true, false, List, [], ◌∷◌, ◌++◌, refl, sym, ap, ◌∙◌, append_assoc, append-nil}
+use Rattle.std.proofs.Common.{◌≡◌, ℕ, Bool, true, false, List, [], ◌∷◌, ◌++◌}
+use Rattle.std.proofs.Common.{refl, sym, ap, ◌∙◌, append_assoc, append-nil}
 use Rattle.std.specs.Prelude.{flat_map, codes}
 use Rattle.cm_model.specs.Trace.{joined}
 use Rattle.trace_text.specs.Joined.{before_item, joined_on, has_started, Adds}
@@ -9,7 +10,8 @@ started_stays : (xs : List (List ℕ)) → has_started true xs ≡ true
 started_stays [] = refl
 started_stays (x ∷ xs) = refl
 
-joined_on-append : (b : Bool) (xs ys : List (List ℕ)) → joined_on b (xs ++ ys) ≡ joined_on b xs ++ joined_on (has_started b xs) ys
+joined_on-append : (b : Bool) (xs ys : List (List ℕ))
+    → joined_on b (xs ++ ys) ≡ joined_on b xs ++ joined_on (has_started b xs) ys
 joined_on-append b [] ys = refl
 joined_on-append b (x ∷ xs) ys =
     ap (λ l. before_item b ++ x ++ l) (joined_on-append true xs ys)
@@ -20,9 +22,12 @@ has_started-append b [] ys = refl
 has_started-append b (x ∷ xs) ys = sym (started_stays ys)
 
 -- one part after another
-pub Adds-then : (t u v : List ℕ) (b s r : Bool) (xs ys : List (List ℕ)) → Adds t u b xs s → Adds u v s ys r → Adds t v b (xs ++ ys) r
+pub Adds-then : (t u v : List ℕ) (b s r : Bool) (xs ys : List (List ℕ)) → Adds t u b xs s → Adds u v s ys r
+    → Adds t v b (xs ++ ys) r
 Adds-then t u v b s r xs ys p q = record {
-  text = q.text ∙ rw (p.text, p.started, joined_on-append b xs ys) (append_assoc t (joined_on b xs) (joined_on (has_started b xs) ys));
+  text = q.text
+      ∙ rw (p.text, p.started, joined_on-append b xs ys)
+      (append_assoc t (joined_on b xs) (joined_on (has_started b xs) ys));
   started = q.started ∙ rw (p.started) (sym (has_started-append b xs ys));
 }
 

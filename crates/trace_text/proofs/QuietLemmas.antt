@@ -1,5 +1,6 @@
 -- Lines that are the same but for the last two digits of their number.
-use Rattle.std.proofs.Common.{◌≡◌, ℕ, ◌+◌, ◌-◌, ◌/◌, ◌%◌, ◌<◌, ◌≤◌, ◌^◌, List, [], ◌∷◌, ◌++◌, length, ap, sym, ◌∙◌, append_assoc, length-append, arith, inl, inr}
+use Rattle.std.proofs.Common.{◌≡◌, ℕ, ◌+◌, ◌-◌, ◌/◌, ◌%◌, ◌<◌, ◌≤◌, ◌^◌, List, [], ◌∷◌, ◌++◌}
+use Rattle.std.proofs.Common.{length, ap, sym, ◌∙◌, append_assoc, length-append, arith, inl, inr}
 use Rattle.std.specs.Prelude.{Option, None, Some, IfSome, IsSomeAnd, decimal, slice_set}
 use Rattle.std.proofs.lemmas.Fmt.{decimal_digit, decimal_step}
 use Rattle.std.proofs.lemmas.Bool.{cases_lt}
@@ -15,15 +16,24 @@ two_digits n many few =
     rw (tens, ones, decimal_step n many (omega arith), decimal_digit (n / 10) (omega arith))
 
 -- two digits are the last of a longer number
-last_digits : (n : ℕ) → 100 ≤ n → n < 2 ^ 64 → decimal n ≡ decimal (n / 100) ++ ((48 + n % 100 / 10) ∷ (48 + n % 100 % 10) ∷ [])
+last_digits : (n : ℕ) → 100 ≤ n → n < 2 ^ 64
+    → decimal n ≡ decimal (n / 100) ++ ((48 + n % 100 / 10) ∷ (48 + n % 100 % 10) ∷ [])
 last_digits n many fits =
     let front : n / 10 / 10 ≡ n / 100 = omega arith in
     let tens : n % 100 / 10 ≡ n / 10 % 10 = omega arith in
     let ones : n % 100 % 10 ≡ n % 10 = omega arith in
-    rw (tens, ones, decimal_step n (omega arith) fits, decimal_step (n / 10) (omega arith) (omega arith), append_assoc, front)
+    rw (
+      tens,
+      ones,
+      decimal_step n (omega arith) fits,
+      decimal_step (n / 10) (omega arith) (omega arith),
+      append_assoc,
+      front,
+    )
 
 -- digits between a word and what stands behind it, the last two apart
-two_apart : (tail word front digits : List ℕ) (a b : ℕ) → digits ≡ front ++ (a ∷ b ∷ []) → (word ++ digits) ++ tail ≡ (word ++ front) ++ (a ∷ b ∷ tail)
+two_apart : (tail word front digits : List ℕ) (a b : ℕ) → digits ≡ front ++ (a ∷ b ∷ [])
+    → (word ++ digits) ++ tail ≡ (word ++ front) ++ (a ∷ b ∷ tail)
 two_apart tail word front digits a b e =
     ap (λ l. (word ++ l) ++ tail) e
     ∙ ap (λ l. l ++ tail) (sym (append_assoc word front (a ∷ b ∷ [])))
@@ -60,15 +70,21 @@ next_line tail word last number pair fits told =
     ]
 
 -- the same where it is told whether there are such digits
-pub next_differs : (tail word : List ℕ) (last number : ℕ) (pair : Option ℕ) → number < 2 ^ 64 → IfSome pair (λ p. IsNextWith last number p)
+pub next_differs : (tail word : List ℕ) (last number : ℕ) (pair : Option ℕ) → number < 2 ^ 64
+    → IfSome pair (λ p. IsNextWith last number p)
     → IfSome pair (λ p. DifferAtPair tail ((word ++ decimal last) ++ tail) ((word ++ decimal number) ++ tail) p)
 next_differs tail word last number None fits told = told
 next_differs tail word last number (Some p) fits told = next_line tail word last number p fits told
 
 -- the place behind the first of two
-pub set_second : (front behind : List ℕ) (a old b : ℕ) → slice_set (front ++ (a ∷ old ∷ behind)) (length front + 1) b ≡ front ++ (a ∷ b ∷ behind)
+pub set_second : (front behind : List ℕ) (a old b : ℕ)
+    → slice_set (front ++ (a ∷ old ∷ behind)) (length front + 1) b ≡ front ++ (a ∷ b ∷ behind)
 set_second front behind a old b =
-    rw (← append_assoc front (a ∷ []) (old ∷ behind), ← append_assoc front (a ∷ []) (b ∷ behind), ← length-append front (a ∷ []))
+    rw (
+      ← append_assoc front (a ∷ []) (old ∷ behind),
+      ← append_assoc front (a ∷ []) (b ∷ behind),
+      ← length-append front (a ∷ []),
+    )
     (set-append_seam (front ++ (a ∷ [])) old behind b)
 
 -- the two digits are put at their places
@@ -77,14 +93,16 @@ put_at_pair : (before now : List ℕ) (pair : ℕ) → DifferAtPair quiet_end be
 put_at_pair before now pair differ =
     let a = 48 + pair / 10 in
     let b = 48 + pair % 10 in
-    let long : length before ≡ length differ.front + 9 = ap length differ.was ∙ length-append differ.front (differ.tens ∷ differ.ones ∷ quiet_end) in
+    let long : length before ≡ length differ.front + 9 =
+    ap length differ.was ∙ length-append differ.front (differ.tens ∷ differ.ones ∷ quiet_end) in
     let first : length before - 9 ≡ length differ.front = omega (arith, long) in
     let second : length before - 8 ≡ length differ.front + 1 = omega (arith, long) in
     rw (first, second, differ.was, differ.is, set-append_seam differ.front differ.tens (differ.ones ∷ quiet_end) a)
     (set_second differ.front quiet_end a differ.ones b)
 
 -- so the line that stands there becomes the other one
-pub renewed : (told : Option CycleCall) (line now : List ℕ) (pair : ℕ) → IfSome told (λ before. line ≡ quiet_text before)
+pub renewed : (told : Option CycleCall) (line now : List ℕ) (pair : ℕ)
+    → IfSome told (λ before. line ≡ quiet_text before)
     → IsSomeAnd told (λ before. DifferAtPair quiet_end (quiet_text before) now pair)
     → slice_set (slice_set line (length line - 9) (48 + pair / 10)) (length line - 8) (48 + pair % 10) ≡ now
 renewed None line now pair stands differ = absurd differ

@@ -12,7 +12,8 @@ use fixed_num::Memory;
 use iface_names::{IfaceName, Kind, Name};
 use std::alloc::Global;
 
-/// The texts of all interfaces: the states of all joints, then the commands of all joints, then the references of all controllers.
+/// The texts of all interfaces: the states of all joints, then the commands of all joints, then the references of all
+/// controllers.
 #[tactic(auto, using(crate::proofs::NameLemmas::all_interfaces))]
 pub fn interface_texts(alloc: Global, description: &Description) -> Result<Vec<String>, Memory>
     ensures { IfOk result

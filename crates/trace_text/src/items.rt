@@ -1,4 +1,5 @@
-//! How replies other than records print in a trace: their items, joined by `; `. Lists are long, so they take no formatter.
+//! How replies other than records print in a trace: their items, joined by `; `. Lists are long, so they take no
+//! formatter.
 
 ghost use Rattle.std.specs.Prelude.{◌≡◌, ℕ, List, ◌++◌, true, map, flat_map, codes, OnOk};
 ghost use Rattle.cm_model.specs.Causes.{outcome_text};

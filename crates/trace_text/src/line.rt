@@ -9,8 +9,8 @@ use itoa::Buffer;
 use std::alloc::Global;
 use std::marker::Model;
 
-/// The text of a line, as it is made: bytes of which the first ones count. The others are room that lines before it took, so that a line
-/// takes memory only where none was as long. Contracts see the bytes that count.
+/// The text of a line, as it is made: bytes of which the first ones count. The others are room that lines before it
+/// took, so that a line takes memory only where none was as long. Contracts see the bytes that count.
 #[derive(Debug, Drop)]
 pub(crate) struct LineText {
     bytes: Vec<u8>,
@@ -93,7 +93,8 @@ impl LineText {
         self.push_word(buffer.format(count))
     }
 
-    /// Appends an item that begins with this head and has these values and numbers, behind a separator where others stand before it.
+    /// Appends an item that begins with this head and has these values and numbers, behind a separator where others
+    /// stand before it.
     pub(crate) fn push_item(
         &mut self,
         started: bool,

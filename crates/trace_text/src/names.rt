@@ -14,8 +14,8 @@ use iface_names::Name;
 use std::alloc::Global;
 use std::marker::Model;
 
-/// The names of the controllers by serial, the components by place, the names of joints and interfaces by place. What the items of a
-/// cycle begin with is kept as it prints: it stands in each line.
+/// The names of the controllers by serial, the components by place, the names of joints and interfaces by place. What
+/// the items of a cycle begin with is kept as it prints: it stands in each line.
 #[derive(Debug, Drop)]
 pub struct Names<'a> {
     controllers: Vec<&'a Name>,

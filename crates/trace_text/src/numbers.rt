@@ -129,7 +129,8 @@ fn place_numbers(bytes: &mut [u8], at: usize, numbers: &[Fx]) -> usize
     at
 }
 
-/// What an item takes at most that begins with this head and has these values and numbers. No buffer has more than a word counts.
+/// What an item takes at most that begins with this head and has these values and numbers. No buffer has more than a
+/// word counts.
 pub(crate) fn item_room(head: &str, values: &[StoredValue], numbers: &[Fx]) -> Result<usize, Memory>
     ensures { IfOk result (λ room. room
         ≡ 2 + length head.now + NUMBER_ROOM * (length values.now + length numbers.now)) }

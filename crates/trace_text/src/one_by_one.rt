@@ -14,8 +14,8 @@ use iface_names::Name;
 use std::alloc::Global;
 use std::marker::Model;
 
-/// Where the line of one entry is made at a time. It knows the names of the controllers that it was told of, by serial. They are lent from
-/// the description, so the history may grow meanwhile.
+/// Where the line of one entry is made at a time. It knows the names of the controllers that it was told of, by serial.
+/// They are lent from the description, so the history may grow meanwhile.
 #[derive(Debug, Drop)]
 pub struct Lines<'a> {
     sessions: &'a [SessionText],

@@ -1,7 +1,8 @@
-//! The lines of a cycle in which nothing happens. Long runs have mostly such, so each is made of the last one of its kind: nearly always
-//! its last two digits alone are others.
+//! The lines of a cycle in which nothing happens. Long runs have mostly such, so each is made of the last one of its
+//! kind: nearly always its last two digits alone are others.
 
-ghost use Rattle.std.specs.Prelude.{◌≡◌, ◌+◌, ◌-◌, ◌/◌, ◌%◌, ◌≤◌, ◌++◌, codes, length, slice_set, IfSome, IsSomeAnd, OnOk};
+ghost use Rattle.std.specs.Prelude.{◌≡◌, ◌+◌, ◌-◌, ◌/◌, ◌%◌, ◌≤◌, ◌++◌, codes};
+ghost use Rattle.std.specs.Prelude.{length, slice_set, IfSome, IsSomeAnd, OnOk};
 ghost use Rattle.cm_document.specs.CallText.{call_text};
 ghost use Rattle.cm_storage.specs.Kept.{call_of};
 ghost use Rattle.trace_text.specs.Quiet.{quiet_end, quiet_text, DifferAtPair, IsNextWith};
@@ -15,7 +16,8 @@ use std::marker::Model;
 /// What stands behind the number.
 const QUIET_END: &str = ": none\n";
 
-/// The line of a begin or an end of which there is nothing to tell, kept for the next one of its kind. Contracts see its bytes.
+/// The line of a begin or an end of which there is nothing to tell, kept for the next one of its kind. Contracts see
+/// its bytes.
 #[derive(Drop)]
 pub(crate) struct QuietLine {
     text: LineText,

@@ -1,5 +1,5 @@
-//! How the record of a cycle prints in a trace: its items, joined by `; `. Nearly all bytes of a long trace are such, so they are put down
-//! as bytes, without a formatter and without a look at whether they are text.
+//! How the record of a cycle prints in a trace: its items, joined by `; `. Nearly all bytes of a long trace are such,
+//! so they are put down as bytes, without a formatter and without a look at whether they are text.
 
 ghost use Rattle.std.specs.Prelude.{◌≡◌, ◌<◌, ◌++◌, length, map, codes, OnOk, IfOk};
 ghost use Rattle.cm_storage.specs.Rans.{ran_of};

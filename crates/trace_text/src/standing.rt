@@ -1,7 +1,8 @@
-//! The line of a cycle in which nobody flies and the bodies stand: it is made of that of the cycle before, because its last two digits
-//! alone are others.
+//! The line of a cycle in which nobody flies and the bodies stand: it is made of that of the cycle before, because its
+//! last two digits alone are others.
 
-ghost use Rattle.std.specs.Prelude.{◌≡◌, ◌+◌, ◌-◌, ◌/◌, ◌%◌, ◌<◌, ◌≤◌, length, slice_set, IfOk, IfSome, IsSomeAnd, OnOk};
+ghost use Rattle.std.specs.Prelude.{◌≡◌, ◌+◌, ◌-◌, ◌/◌, ◌%◌, ◌<◌, ◌≤◌, length};
+ghost use Rattle.std.specs.Prelude.{slice_set, IfOk, IfSome, IsSomeAnd, OnOk};
 ghost use Rattle.trace_text.specs.Quiet.{IsNextWith};
 ghost use Rattle.trace_text.specs.Standing.{IsStanding, standing_text};
 
@@ -14,8 +15,8 @@ use fixed_num::{BodyState, Memory};
 use std::alloc::Global;
 use std::marker::Model;
 
-/// The line of an end of a cycle of which bodies alone are told, kept for the next one. Contracts see the names that it is told with, and
-/// its bytes.
+/// The line of an end of a cycle of which bodies alone are told, kept for the next one. Contracts see the names that it
+/// is told with, and its bytes.
 #[derive(Drop)]
 pub(crate) struct StandingLine<'n, 'd> {
     names: &'n Names<'d>,

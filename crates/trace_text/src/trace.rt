@@ -80,8 +80,8 @@ fn cycle_of_loop(sessions: &[SessionText], entry: &Entry) -> Option<CycleCall>
     }
 }
 
-/// Appends what stands before the reply in the line of an entry. Two lines of each cycle begin with the loop's call, which prints in two
-/// pieces.
+/// Appends what stands before the reply in the line of an entry. Two lines of each cycle begin with the loop's call,
+/// which prints in two pieces.
 fn push_head(
     line: &mut LineText,
     words: &mut String,
@@ -307,8 +307,8 @@ fn make_in(room: &mut Room<'_, '_>, sessions: &[SessionText], entry: &Entry) -> 
     Ok(Made::Line)
 }
 
-/// Writes a line as one piece, and again what the sink did not take of it, which is seldom a byte. To call it would take as long as what it
-/// does for a short line.
+/// Writes a line as one piece, and again what the sink did not take of it, which is seldom a byte. To call it would
+/// take as long as what it does for a short line.
 #[inline(always)]
 fn write_piece<K: Sink>(sink: &mut K, line: &[u8]) -> Result<(), Failed>
     ensures ok { OnOk result (Appends (K.taken sink.old) (K.taken sink.new) line.now) }
@@ -366,7 +366,8 @@ fn write_lines<K: Sink>(
     Ok(())
 }
 
-/// Writes the trace of a history, a line a piece. After either fault the sink has taken a front of it. Nothing is flushed.
+/// Writes the trace of a history, a line a piece. After either fault the sink has taken a front of it. Nothing is
+/// flushed.
 pub fn write_trace<K: Sink>(
     alloc: Global,
     sink: &mut K,

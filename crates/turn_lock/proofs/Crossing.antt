@@ -28,7 +28,11 @@ pass_send K E G g s =
     let spot : IsSend (Spot.the_row K) = spot_send K s in
     declared_send (Pass.the_type K E G g) (
       search sendable,
-      (as_row_send (Seat.the_field (Spot.the_row K) (SeatView.the_row E G)) (seat.the_send (Spot.the_row K) (SeatView.the_row E G) spot), tt),
+      (
+        as_row_send (Seat.the_field (Spot.the_row K) (SeatView.the_row E G))
+            (seat.the_send (Spot.the_row K) (SeatView.the_row E G) spot),
+        tt,
+      ),
     )
 
 -- and the lock is shared among threads
@@ -36,7 +40,9 @@ pub lock_sync : (K E G : RattleType) (g : Ghosts K.Denot E.Denot G.Denot) → Is
 lock_sync K E G g s =
     let spot : IsSend (Spot.the_row K) = spot_send K s in
     declared_sync (Lock.the_type K E G g) (
-      as_row_sync (Table.the_field (Spot.the_row K) (SeatView.the_row E G) (Terms.the_row K) (Turns.the_row K) Heap.the_row (ghosts K E G g no_dict) heap_ghosts)
-          (table.the_field_sync (Spot.the_row K) (SeatView.the_row E G) (Terms.the_row K) (Turns.the_row K) Heap.the_row (ghosts K E G g no_dict) heap_ghosts spot heap.send heap.sync heap.frees),
+      as_row_sync (Table.the_field (Spot.the_row K) (SeatView.the_row E G) (Terms.the_row K) (Turns.the_row K)
+          Heap.the_row (ghosts K E G g no_dict) heap_ghosts)
+          (table.the_field_sync (Spot.the_row K) (SeatView.the_row E G) (Terms.the_row K) (Turns.the_row K) Heap.the_row
+          (ghosts K E G g no_dict) heap_ghosts spot heap.send heap.sync heap.frees),
       tt,
     )

@@ -1,5 +1,7 @@
 -- Lemmas on lists: those of prefixes, of the entries of one number, and of the views in a row.
-use Rattle.std.proofs.Common.{◌≡◌, ◌≢◌, ◌⊎◌, ℕ, zero, suc, ◌+◌, ◌<◌, ◌≤◌, ◌==◌, Bool, true, false, cond, ltb, List, [], ◌∷◌, ◌++◌, length, get_or, set, sum_by, Contains, refl, sym, ap, ◌∙◌, subst, inl, inr, ⊎_elim, arith, append_assoc, append-nil, ltb-true, ltb-false, ne_eqb}
+use Rattle.std.proofs.Common.{◌≡◌, ◌≢◌, ◌⊎◌, ℕ, zero, suc, ◌+◌, ◌<◌, ◌≤◌, ◌==◌, Bool, true, false, cond, ltb, List}
+use Rattle.std.proofs.Common.{[], ◌∷◌, ◌++◌, length, get_or, set, sum_by, Contains, refl, sym, ap, ◌∙◌, subst, inl}
+use Rattle.std.proofs.Common.{inr, ⊎_elim, arith, append_assoc, append-nil, ltb-true, ltb-false, ne_eqb}
 use mathlib.Core.List.{IsPrefix}
 use mathlib.Core.Option.{some, some-injective, some-ne-none}
 use lib.ListN.{get_elem?}
@@ -31,7 +33,8 @@ module _ {A : Type 0} where
   prefix_more xs ys zs p = (p.0 ++ zs, sym (append_assoc xs p.0 zs) ∙ ap (λ l. l ++ zs) p.1)
 
   -- of two beginnings of one list, the shorter begins the longer
-  pub between : (xs ys r t : List A) → xs ++ r ≡ ys ++ t → length xs ≤ length ys → (u : List A) × (xs ++ u ≡ ys) × (r ≡ u ++ t)
+  pub between : (xs ys r t : List A) → xs ++ r ≡ ys ++ t → length xs ≤ length ys
+      → (u : List A) × (xs ++ u ≡ ys) × (r ≡ u ++ t)
   between [] ys r t e le = (ys, refl, e)
   between (x ∷ xs) [] r t e le = absurd (omega arith)
   between (x ∷ xs) (y ∷ ys) r t e le =
@@ -49,25 +52,31 @@ module _ {E : Type 0} (caller : E → ℕ) where
   -- an entry of another number adds nothing
   pub of_other : (n : ℕ) (xs : List E) (e : E) → caller e ≢ n → of caller n (xs ++ e ∷ []) ≡ of caller n xs
   of_other n xs e other =
-      of-append n xs (e ∷ []) ∙ ap (λ b. of caller n xs ++ cond b (e ∷ []) []) (ne_eqb (caller e) n other) ∙ append-nil (of caller n xs)
+      of-append n xs (e ∷ []) ∙ ap (λ b. of caller n xs ++ cond b (e ∷ []) []) (ne_eqb (caller e) n other)
+      ∙ append-nil (of caller n xs)
 
   -- a beginning of a list without entries of a number has none
   pub of_none : (n : ℕ) (xs log : List E) → IsPrefix xs log → of caller n log ≡ [] → of caller n xs ≡ []
-  of_none n xs log p none = nil_left (of caller n xs) (of caller n p.0) (sym (of-append n xs p.0) ∙ ap (of caller n) p.1 ∙ none)
+  of_none n xs log p none =
+      nil_left (of caller n xs) (of caller n p.0) (sym (of-append n xs p.0) ∙ ap (of caller n) p.1 ∙ none)
 
   -- where the shorter of two beginnings has all entries of a number, so has the longer
   pub of_between : (n : ℕ) (xs ys log : List E) → IsPrefix xs log → IsPrefix ys log → length xs ≤ length ys
       → of caller n xs ≡ of caller n log → of caller n ys ≡ of caller n log
   of_between n xs ys log p q le all =
       let b = between xs ys p.0 q.0 (p.1 ∙ sym q.1) le in
-      let none : of caller n p.0 ≡ [] = nil_added (of caller n xs) (of caller n p.0) (sym (of-append n xs p.0) ∙ ap (of caller n) p.1 ∙ sym all) in
-      let rest : of caller n q.0 ≡ [] = nil_right (of caller n b.0) (of caller n q.0) (sym (of-append n b.0 q.0) ∙ ap (of caller n) (sym b.2) ∙ none) in
-      sym (append-nil (of caller n ys)) ∙ ap (λ l. of caller n ys ++ l) (sym rest) ∙ sym (of-append n ys q.0) ∙ ap (of caller n) q.1
+      let none : of caller n p.0 ≡ [] =
+      nil_added (of caller n xs) (of caller n p.0) (sym (of-append n xs p.0) ∙ ap (of caller n) p.1 ∙ sym all) in
+      let rest : of caller n q.0 ≡ [] =
+      nil_right (of caller n b.0) (of caller n q.0) (sym (of-append n b.0 q.0) ∙ ap (of caller n) (sym b.2) ∙ none) in
+      sym (append-nil (of caller n ys)) ∙ ap (λ l. of caller n ys ++ l) (sym rest) ∙ sym (of-append n ys q.0)
+      ∙ ap (of caller n) q.1
 
 -- ---- The longer of two lists
 
 module _ {E : Type 0} where
-  pub longer_is : (P : List E → Type 0) (xs ys : List E) → (length ys ≤ length xs → P xs) → (length xs < length ys → P ys) → P (longer xs ys)
+  pub longer_is : (P : List E → Type 0) (xs ys : List E) → (length ys ≤ length xs → P xs)
+      → (length xs < length ys → P ys) → P (longer xs ys)
   longer_is P xs ys first second = by (ltb (length xs) (length ys)) refl
     where
       by : (b : Bool) → ltb (length xs) (length ys) ≡ b → P (cond b ys xs)
@@ -82,10 +91,13 @@ module _ {A : Type 0} where
   at_get (x ∷ xs) zero v e = (omega arith, some-injective x v e)
   at_get (x ∷ xs) (suc i) v e = let r = at_get xs i v e in (omega arith, r.1)
 
-  pub sum_set : (f : A → ℕ) (l : List A) (i : ℕ) (v w : A) → get_elem? l i ≡ some v → sum_by f (set l i w) + f v ≡ sum_by f l + f w
-  sum_set f l i v w e = let r = at_get l i v e in ap (λ u. sum_by f (set l i w) + f u) (sym r.1) ∙ sum_by-set f l i w v r.0
+  pub sum_set : (f : A → ℕ) (l : List A) (i : ℕ) (v w : A) → get_elem? l i ≡ some v
+      → sum_by f (set l i w) + f v ≡ sum_by f l + f w
+  sum_set f l i v w e =
+      let r = at_get l i v e in ap (λ u. sum_by f (set l i w) + f u) (sym r.1) ∙ sum_by-set f l i w v r.0
 
-  pub sum_le : (f g : A → ℕ) (l : List A) → ((i : ℕ) (v : A) → get_elem? l i ≡ some v → f v ≤ g v) → sum_by f l ≤ sum_by g l
+  pub sum_le : (f g : A → ℕ) (l : List A) → ((i : ℕ) (v : A) → get_elem? l i ≡ some v → f v ≤ g v)
+      → sum_by f l ≤ sum_by g l
   sum_le f g [] each = omega arith
   sum_le f g (x ∷ xs) each =
       let here = each 0 x refl in
@@ -93,7 +105,8 @@ module _ {A : Type 0} where
       omega (arith, sum_by-cons f x xs, sum_by-cons g x xs)
 
   -- what holds of the new item and of each other
-  pub every_set : (P : A → Type 0) (l : List A) (i : ℕ) (w : A) → P w → ((j : ℕ) (u : A) → j ≢ i → get_elem? l j ≡ some u → P u)
+  pub every_set : (P : A → Type 0) (l : List A) (i : ℕ) (w : A) → P w
+      → ((j : ℕ) (u : A) → j ≢ i → get_elem? l j ≡ some u → P u)
       → (j : ℕ) (u : A) → get_elem? (set l i w) j ≡ some u → P u
   every_set P l i w one others j u e =
       ⊎_elim
@@ -119,7 +132,8 @@ module _ {A : Type 0} where
       (at_set l i j w a at)
 
 -- a row and one item more: each is an old one, or the new one at the end
-pub snoc_at : {A : Type 0} (l : List A) (a b : A) (j : ℕ) → get_elem? (l ++ a ∷ []) j ≡ some b → (get_elem? l j ≡ some b) ⊎ ((j ≡ length l) × (a ≡ b))
+pub snoc_at : {A : Type 0} (l : List A) (a b : A) (j : ℕ) → get_elem? (l ++ a ∷ []) j ≡ some b
+    → (get_elem? l j ≡ some b) ⊎ ((j ≡ length l) × (a ≡ b))
 snoc_at [] a b zero e = inr (refl, some-injective a b e)
 snoc_at [] a b (suc j) e = absurd (some-ne-none b (sym e))
 snoc_at (x ∷ xs) a b zero e = inl e

@@ -1,5 +1,7 @@
 -- What follows of a pass's seat from that it stands right, and its steps after a write to the slot that it holds.
-use Rattle.std.proofs.Common.{◌≡◌, ℕ, ◌+◌, ◌%◌, ◌^◌, ◌<◌, ◌==◌, Bool, true, false, not, ◌&&◌, cond, List, [], ◌∷◌, length, Contains, Option, Some, None, is_none, refl, sym, ap, ◌∙◌, subst, arith, true≢false, eqb-true}
+use Rattle.std.proofs.Common.{◌≡◌, ℕ, ◌+◌, ◌%◌, ◌^◌, ◌<◌, ◌==◌, Bool, true, false, not, ◌&&◌}
+use Rattle.std.proofs.Common.{cond, List, [], ◌∷◌, length, Contains, Option, Some, None}
+use Rattle.std.proofs.Common.{is_none, refl, sym, ap, ◌∙◌, subst, arith, true≢false, eqb-true}
 use mathlib.Core.Option.{none}
 use Rattle.std.specs.declared.snapshot.Snapshot.{Snapshot}
 use Rattle.std.proofs.lemmas.Bool.{not-true}
@@ -33,13 +35,16 @@ none_is : (a : Option ℕ) → is_none a ≡ true → a ≡ None
 none_is None e = refl
 none_is (Some n) e = absurd (true≢false (sym e))
 
-slot_is : {K : Type 0} (slots : List (ℕ × Spot K)) → has_slot slots ≡ true → (spot : Spot K) × (slots ≡ (0, spot) ∷ []) × (is_emptied spot ≡ true)
+slot_is : {K : Type 0} (slots : List (ℕ × Spot K)) → has_slot slots ≡ true
+    → (spot : Spot K) × (slots ≡ (0, spot) ∷ []) × (is_emptied spot ≡ true)
 slot_is [] e = absurd (true≢false (sym e))
-slot_is ((k, x) ∷ []) e = let b = both (k == 0) (is_emptied x) e in let is : k ≡ 0 = eqb-true k 0 b.0 in (x, (λ i. (is i, x) ∷ []), b.1)
+slot_is ((k, x) ∷ []) e =
+    let b = both (k == 0) (is_emptied x) e in let is : k ≡ 0 = eqb-true k 0 b.0 in (x, (λ i. (is i, x) ∷ []), b.1)
 slot_is (x ∷ y ∷ xs) e = absurd (true≢false (sym e))
 
 module _ {E G : Type 0} where
-  pub paid_both : (v : SeatView E G) → v.cycles.owes ≡ false → v.tickets.owes ≡ false → (which : Shown) → (known which v).owes ≡ false
+  pub paid_both : (v : SeatView E G) → v.cycles.owes ≡ false → v.tickets.owes ≡ false → (which : Shown)
+      → (known which v).owes ≡ false
   paid_both v a b Cycles = a
   paid_both v a b Tickets = b
 
@@ -72,28 +77,42 @@ module _ {K E G : Type 0} where
       let x = both (is_none me.0.number && is_nil me.1 && not me.0.cycles.owes) (not me.0.tickets.owes) i in
       let y = both (is_none me.0.number && is_nil me.1) (not me.0.cycles.owes) x.0 in
       let z = both (is_none me.0.number) (is_nil me.1) y.0 in
-      record { number = none_is me.0.number z.0; slot = nil_is me.1 z.1; cycles = not-true me.0.cycles.owes y.1; tickets = not-true me.0.tickets.owes x.1; absorbed = nil_is me.0.absorbed b.0 }
+      record {
+        number = none_is me.0.number z.0;
+        slot = nil_is me.1 z.1;
+        cycles =
+            not-true me.0.cycles.owes y.1;
+        tickets = not-true me.0.tickets.owes x.1;
+        absorbed = nil_is me.0.absorbed b.0;
+      }
 
   -- the slot can be written, since it is held
-  pub slot_held : (me : Me (Spot K) (SeatView E G)) → stands me ≡ true → me.0.holds ≡ true → (old : Spot K) × (me.1 ≡ (0, old) ∷ rest me.1)
+  pub slot_held : (me : Me (Spot K) (SeatView E G)) → stands me ≡ true → me.0.holds ≡ true
+      → (old : Spot K) × (me.1 ≡ (0, old) ∷ rest me.1)
   slot_held me e holds = let h = holder me e holds in (h.spot, subst (λ l. l ≡ (0, h.spot) ∷ rest l) (sym h.slot) refl)
 
 module _ {K E G : Type 0} (m : Ghosts K E G) (footing : G) (seats : ℕ) where
-  pub draws_idle : (slots : ℕ) (i : ℕ) (me : Me (Spot K) (SeatView E G)) → (me.0.alive ≡ true) × (me.0.holds ≡ false) × (stands me ≡ true)
+  pub draws_idle : (slots : ℕ) (i : ℕ) (me : Me (Spot K) (SeatView E G))
+      → (me.0.alive ≡ true) × (me.0.holds ≡ false) × (stands me ≡ true)
       → Allows (Ruled m footing seats) slots i me 0 (λ n. (n + 1) % 2 ^ 64) (drawn some_step me)
   draws_idle slots i me (alive, waits, right) = draws m footing seats slots i me alive (idle me right waits).number
 
   pub looks_waiting : (slots : ℕ) (i : ℕ) (me : Me (Spot K) (SeatView E G)) (mine : ℕ) → Waits me me mine
       → Allows (Ruled m footing seats) slots i me 1 (λ n. n) (looked m some_step me)
-  looks_waiting slots i me mine w = looks m footing seats slots i me w.ticket w.alive (ap (λ (x : Me (Spot K) (SeatView E G)). x.0.number) w.is) w.waits (ap (λ (x : Me (Spot K) (SeatView E G)). x.1) w.is)
+  looks_waiting slots i me mine w =
+      looks m footing seats slots i me w.ticket w.alive (ap (λ (x : Me (Spot K) (SeatView E G)). x.0.number) w.is)
+      w.waits (ap (λ (x : Me (Spot K) (SeatView E G)). x.1) w.is)
 
-  pub publishes_at : (slots : ℕ) (i : ℕ) (me : Me (Spot K) (SeatView E G)) (which : Shown) (word n : ℕ) → word ≡ atomic_word_of which → me.0.holds ≡ true → n ≡ m.shown which me.0.seen
+  pub publishes_at : (slots : ℕ) (i : ℕ) (me : Me (Spot K) (SeatView E G)) (which : Shown) (word n : ℕ)
+      → word ≡ atomic_word_of which → me.0.holds ≡ true → n ≡ m.shown which me.0.seen
       → Allows (Ruled m footing seats) slots i me word (λ _. n) (λ _. publishes (step slots word n 0 none) me n)
   publishes_at slots i me which word n is holds number =
-      subst (λ k. Allows (Ruled m footing seats) slots i me k (λ _. n) (λ _. publishes (step slots k n 0 none) me n)) (sym is)
+      subst (λ k. Allows (Ruled m footing seats) slots i me k (λ _. n) (λ _. publishes (step slots k n 0 none) me n))
+      (sym is)
       (publishes_one m footing seats slots (step slots (atomic_word_of which) n 0 none) i me which n refl holds number)
 
-  pub loads_at : (slots : ℕ) (i : ℕ) (me : Me (Spot K) (SeatView E G)) (which : Shown) (word : ℕ) → word ≡ atomic_word_of which
+  pub loads_at : (slots : ℕ) (i : ℕ) (me : Me (Spot K) (SeatView E G)) (which : Shown) (word : ℕ)
+      → word ≡ atomic_word_of which
       → Allows (Ruled m footing seats) slots i me word (λ n. n) (loads m (step slots word 0 0 none) me)
   loads_at slots i me which word is =
       subst (λ k. Allows (Ruled m footing seats) slots i me k (λ n. n) (loads m (step slots k 0 0 none) me)) (sym is)
@@ -105,28 +124,38 @@ word_within Tickets word words is five = omega arith
 
 module _ {K E G : Type 0} (m : Ghosts K E G) where
   -- a look that found the ticket's word
-  pub hit_of : (old me : Me (Spot K) (SeatView E G)) (found mine : ℕ) → Waits old old mine → looked m some_step old found me → found ≡ mine → Hit m old me
-  hit_of old me found mine w tells same = (tells w.ticket (ap (λ (x : Me (Spot K) (SeatView E G)). x.0.number) w.is)).0 (same ∙ sym w.remainder)
+  pub hit_of : (old me : Me (Spot K) (SeatView E G)) (found mine : ℕ) → Waits old old mine
+      → looked m some_step old found me → found ≡ mine → Hit m old me
+  hit_of old me found mine w tells same =
+      (tells w.ticket (ap (λ (x : Me (Spot K) (SeatView E G)). x.0.number) w.is)).0 (same ∙ sym w.remainder)
 
-  pub slot_of_hit : (old me : Me (Spot K) (SeatView E G)) → Hit m old me → (spot : Spot K) × (me.1 ≡ (0, spot) ∷ rest me.1)
-  slot_of_hit old me h = (Home h.kept, subst (λ (x : Me (Spot K) (SeatView E G)). x.1 ≡ (0, Home h.kept) ∷ rest x.1) (sym h.holds) refl)
+  pub slot_of_hit : (old me : Me (Spot K) (SeatView E G)) → Hit m old me
+      → (spot : Spot K) × (me.1 ≡ (0, spot) ∷ rest me.1)
+  slot_of_hit old me h =
+      (Home h.kept, subst (λ (x : Me (Spot K) (SeatView E G)). x.1 ≡ (0, Home h.kept) ∷ rest x.1) (sym h.holds) refl)
 
 module _ {K E G : Type 0} {g : Ghosts K E G} (footing : G) (seats : ℕ) where
   -- the count, once the value is named in the slot
-  pub counts_after : (slots : ℕ) (i : ℕ) (p : TurnPass K E G g) (me : Me (Spot K) (SeatView E G)) (named : Snapshot K) (kept : K)
+  pub counts_after : (slots : ℕ) (i : ℕ) (p : TurnPass K E G g) (me : Me (Spot K) (SeatView E G)) (named : Snapshot K)
+      (kept : K)
       → me ≡ (view p, (0, Counted named) ∷ []) → named.value ≡ kept → (view p).holds ≡ true → AddsOne p kept
       → Allows (Ruled g footing seats) slots i me 2 (λ n. (n + 1) % 2 ^ 64) (counts g some_step me)
   counts_after slots i p me named kept is names holds adds =
       let h = holder p.seat.me p.stands holds in
-      let own : Contains (view p).mine (g.caller adds.entry) = subst (λ (l : List ℕ). Contains l (g.caller adds.entry)) (sym p.mine) (0, omega arith, sym adds.caller) in
+      let own : Contains (view p).mine (g.caller adds.entry) =
+      subst (λ (l : List ℕ). Contains l (g.caller adds.entry)) (sym p.mine) (0, omega arith, sym adds.caller) in
       let few = adds.room in
-      subst (λ (x : Me (Spot K) (SeatView E G)). Allows (Ruled g footing seats) slots i x 2 (λ n. (n + 1) % 2 ^ 64) (counts g some_step x)) (sym is)
-      (counts_one g footing seats slots i (view p, (0, Counted named) ∷ []) named adds.entry refl holds h.absorbed (ap g.entries names ∙ adds.list) own (omega (arith, ap length (ap g.entries names))))
+      subst (λ (x : Me (Spot K) (SeatView E G)). Allows (Ruled g footing seats) slots i x 2 (λ n. (n + 1) % 2 ^ 64)
+      (counts g some_step x)) (sym is)
+      (counts_one g footing seats slots i (view p, (0, Counted named) ∷ []) named adds.entry refl holds h.absorbed
+      (ap g.entries names ∙ adds.list) own (omega (arith, ap length (ap g.entries names))))
 
   -- passing on, once the value is home
   pub passes_after : (slots : ℕ) (i : ℕ) (p : TurnPass K E G g) (me : Me (Spot K) (SeatView E G)) (kept : K)
       → me ≡ (view p, (0, Home kept) ∷ []) → (view p).holds ≡ true → IsSettled p kept
       → Allows (Ruled g footing seats) slots i me 1 (λ n. (n + 1) % 2 ^ 64) (passes_on some_step me)
   passes_after slots i p me kept is holds s =
-      subst (λ (x : Me (Spot K) (SeatView E G)). Allows (Ruled g footing seats) slots i x 1 (λ n. (n + 1) % 2 ^ 64) (passes_on some_step x)) (sym is)
-      (passes g footing seats slots i (view p, (0, Home kept) ∷ []) kept refl p.alive holds s.all_counted s.ground_is (paid_both (view p) s.cycles s.tickets))
+      subst (λ (x : Me (Spot K) (SeatView E G)). Allows (Ruled g footing seats) slots i x 1 (λ n. (n + 1) % 2 ^ 64)
+      (passes_on some_step x)) (sym is)
+      (passes g footing seats slots i (view p, (0, Home kept) ∷ []) kept refl p.alive holds s.all_counted s.ground_is
+      (paid_both (view p) s.cycles s.tickets))

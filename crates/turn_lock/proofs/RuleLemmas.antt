@@ -1,5 +1,7 @@
 -- The rule is kept where one seat changes, and where a seat is new.
-use Rattle.std.proofs.Common.{false, ◌<◌, true≢false, All, Contains, ◌≡◌, ◌≢◌, ◌⊎◌, ℕ, ◌+◌, ◌≤◌, true, List, [], ◌∷◌, ◌++◌, length, set, sum_by, Option, Some, None, sym, ap, ◌∙◌, subst, inl, inr, ⊎_elim, arith}
+use Rattle.std.proofs.Common.{false, ◌<◌, true≢false, All, Contains, ◌≡◌, ◌≢◌, ◌⊎◌, ℕ, ◌+◌}
+use Rattle.std.proofs.Common.{◌≤◌, true, List, [], ◌∷◌, ◌++◌, length, set, sum_by, Option}
+use Rattle.std.proofs.Common.{Some, None, sym, ap, ◌∙◌, subst, inl, inr, ⊎_elim, arith}
 use mathlib.Core.Logic.{dite}
 use native.Mathlib.Decide.{ℕ_discrete}
 use mathlib.Core.Option.{Option as Maybe, none, some, some-injective}
@@ -13,7 +15,8 @@ use Rattle.turn_lock.specs.declared.view.SeatView.{SeatView}
 use Rattle.turn_lock.specs.declared.kept.Kept.{Ghosts}
 use Rattle.turn_lock.specs.Entries.{of}
 use Rattle.turn_lock.specs.Views.{known}
-use Rattle.turn_lock.specs.Rule.{LockState, atomic_words, value, out, living, Saw, Absorbed, Posted, Apart, Fits, IsHome, IsOut, Ruled}
+use Rattle.turn_lock.specs.Rule.{LockState, atomic_words, value, out, living, Saw}
+use Rattle.turn_lock.specs.Rule.{Absorbed, Posted, Apart, Fits, IsHome, IsOut, Ruled}
 use Rattle.turn_lock.proofs.ListLemmas.{at_get, sum_set, every_set, pairs_set, snoc_at}
 
 pub some_none : {C : Type 0} (a : Option ℕ) (n : ℕ) → a ≡ None → a ≡ Some n → C
@@ -32,7 +35,8 @@ module _ {E G : Type 0} where
 
 module _ {K E G : Type 0} (m : Ghosts K E G) (footing : G) (seats : ℕ) where
   -- the seat i goes from v to w, and with it the words, the slot and where the lock stands
-  unfoldable pub change : (s : State (Spot K) (SeatView E G)) (r : Ruled m footing seats s) (i : ℕ) (v w : SeatView E G) → get_elem? s.views i ≡ some v
+  unfoldable pub change : (s : State (Spot K) (SeatView E G)) (r : Ruled m footing seats s) (i : ℕ) (v w : SeatView E G)
+      → get_elem? s.views i ≡ some v
       → (ws : List ℕ) (hs : List (Maybe (Spot K))) (t : LockState E)
       → ws ≡ atomic_words t
       → out w + t.serving + r.at.ticket ≡ out v + t.ticket + r.at.serving
@@ -41,7 +45,8 @@ module _ {K E G : Type 0} (m : Ghosts K E G) (footing : G) (seats : ℕ) where
       → ((n : ℕ) → t.given ≤ n → of m.caller n t.log ≡ [])
       → ((which : Shown) → value which t ≤ m.shown which t.log)
       → Fits m footing hs t w
-      → ((j : ℕ) (u : SeatView E G) → j ≢ i → get_elem? s.views j ≡ some u → Apart v u → Fits m footing s.homes r.at u → Fits m footing hs t u × Apart w u)
+      → ((j : ℕ) (u : SeatView E G) → j ≢ i → get_elem? s.views j ≡ some u → Apart v u → Fits m footing s.homes r.at u
+      → Fits m footing hs t u × Apart w u)
       → IsHome m footing hs t ⊎ IsOut hs (set s.views i w)
       → Ruled m footing seats (record { words = ws; homes = hs; views = set s.views i w })
   change s r i v w at ws hs t words_are tickets alive given callers published mine others slot =
@@ -50,7 +55,8 @@ module _ {K E G : Type 0} (m : Ghosts K E G) (footing : G) (seats : ℕ) where
       let many = r.as_many in
       let few = r.few in
       let most = r.most in
-      let other : (j : ℕ) (u : SeatView E G) → j ≢ i → get_elem? s.views j ≡ some u → Fits m footing hs t u × Apart w u =
+      let other : (j : ℕ) (u : SeatView E G) → j ≢ i → get_elem? s.views j ≡ some u
+      → Fits m footing hs t u × Apart w u =
       λ j u apart e. others j u apart e (r.apart i j v u (λ h. apart (sym h)) at e) (r.fits j u e) in
       record {
         at = t;
@@ -66,7 +72,8 @@ module _ {K E G : Type 0} (m : Ghosts K E G) (footing : G) (seats : ℕ) where
       }
 
   -- where the slot is where it was
-  pub slot_kept : (s : State (Spot K) (SeatView E G)) (r : Ruled m footing seats s) (i : ℕ) (v w : SeatView E G) → get_elem? s.views i ≡ some v
+  pub slot_kept : (s : State (Spot K) (SeatView E G)) (r : Ruled m footing seats s) (i : ℕ) (v w : SeatView E G)
+      → get_elem? s.views i ≡ some v
       → (t : LockState E)
       → (IsHome m footing s.homes r.at → IsHome m footing s.homes t)
       → (v.holds ≡ true → w.holds ≡ true)
@@ -80,7 +87,9 @@ module _ {K E G : Type 0} (m : Ghosts K E G) (footing : G) (seats : ℕ) where
             seat = i;
             holder = w;
             sits = set_here s.views i w ((at_get s.views i v at).0);
-            holds = holds (subst (λ (u : SeatView E G). u.holds ≡ true) (some-injective _ _ (sym o.sits ∙ ap (get_elem? s.views) here ∙ at)) o.holds);
+            holds = holds
+                (subst (λ (u : SeatView E G). u.holds ≡ true)
+                (some-injective _ _ (sym o.sits ∙ ap (get_elem? s.views) here ∙ at)) o.holds);
           })
           (λ there. record {
             away = o.away;
@@ -91,12 +100,15 @@ module _ {K E G : Type 0} (m : Ghosts K E G) (footing : G) (seats : ℕ) where
           })
 
   -- while one seat waits with the served ticket, or holds the turn, no other seat holds it
-  pub others_wait : (homes : List (Maybe (Spot K))) (t : LockState E) (v u : SeatView E G) → v.number ≡ Some t.serving → Apart v u
+  pub others_wait : (homes : List (Maybe (Spot K))) (t : LockState E) (v u : SeatView E G) → v.number ≡ Some t.serving
+      → Apart v u
       → Fits m footing homes t u → {C : Type 0} → u.holds ≡ true → C
   others_wait homes t v u mine apart f h = absurd (apart.tickets t.serving mine (f.turn h).0)
 
-  -- a seat that stays as it is fits wherever the slot, the next ticket and the served one go, if its own ticket and its turn do
-  pub still_fits : (hs homes : List (Maybe (Spot K))) (t : LockState E) (ticket serving : ℕ) (u : SeatView E G) → Fits m footing hs t u
+  -- a seat that stays as it is fits wherever the slot, the next ticket and the served one go, if its own ticket and its
+  -- turn do
+  pub still_fits : (hs homes : List (Maybe (Spot K))) (t : LockState E) (ticket serving : ℕ) (u : SeatView E G)
+      → Fits m footing hs t u
       → ((n : ℕ) → u.number ≡ Some n → (serving ≤ n) × (n < ticket))
       → (u.holds ≡ true → (u.number ≡ Some serving) × (u.seen ≡ t.log) × (homes ≡ none ∷ []))
       → Fits m footing homes (record t { ticket = ticket; serving = serving }) u
@@ -114,9 +126,12 @@ module _ {K E G : Type 0} (m : Ghosts K E G) (footing : G) (seats : ℕ) where
   }
 
   -- a seat without a ticket
-  pub idle_fits : (homes : List (Maybe (Spot K))) (t : LockState E) (v : SeatView E G) → v.number ≡ None → v.holds ≡ false
-      → Saw m.caller t.log v.mine v.seen → All (Absorbed m.caller t.log v.mine) v.absorbed → (v.alive ≡ true → v.footing ≡ Some footing)
-      → ((n : ℕ) → Contains v.mine n → n < t.given) → (v.alive ≡ true → (n : ℕ) × Contains v.mine n) → ((k : ℕ) → v.given ≡ Some k → k ≡ t.given)
+  pub idle_fits : (homes : List (Maybe (Spot K))) (t : LockState E) (v : SeatView E G) → v.number ≡ None
+      → v.holds ≡ false
+      → Saw m.caller t.log v.mine v.seen → All (Absorbed m.caller t.log v.mine) v.absorbed
+      → (v.alive ≡ true → v.footing ≡ Some footing)
+      → ((n : ℕ) → Contains v.mine n → n < t.given) → (v.alive ≡ true → (n : ℕ) × Contains v.mine n)
+      → ((k : ℕ) → v.given ≡ Some k → k ≡ t.given)
       → ((which : Shown) → Posted (value which t) (m.shown which) (known which v) v.holds v.seen)
       → Fits m footing homes t v
   idle_fits homes t v idle waits saw absorbed ground_is given owner counts posted =
@@ -144,7 +159,8 @@ module _ {K E G : Type 0} (m : Ghosts K E G) (footing : G) (seats : ℕ) where
       let many = r.as_many in
       let none : out w ≡ 0 = rw idle in
       let all : (j : ℕ) (u : SeatView E G) → get_elem? (s.views ++ w ∷ []) j ≡ some u → Fits m footing s.homes r.at u =
-      λ j u e. ⊎_elim (λ (old : get_elem? s.views j ≡ some u). r.fits j u old) (λ (new : w ≡ u). subst (Fits m footing s.homes r.at) new mine) (at_snoc s.views w u j e) in
+      λ j u e. ⊎_elim (λ (old : get_elem? s.views j ≡ some u). r.fits j u old)
+      (λ (new : w ≡ u). subst (Fits m footing s.homes r.at) new mine) (at_snoc s.views w u j e) in
       record {
         at = r.at;
         words_are = r.words_are;
@@ -155,10 +171,20 @@ module _ {K E G : Type 0} (m : Ghosts K E G) (footing : G) (seats : ℕ) where
         published = r.published;
         fits = all;
         apart = pairs;
-        slot = ⊎_elim (λ h. inl h) (λ (o : IsOut s.homes s.views). inr (record { away = o.away; seat = o.seat; holder = o.holder; sits = at_longer s.views (w ∷ []) o.seat o.holder o.sits; holds = o.holds })) r.slot;
+        slot = ⊎_elim (λ h. inl h)
+            (λ (o : IsOut s.homes s.views). inr
+            (record {
+              away = o.away;
+              seat = o.seat;
+              holder = o.holder;
+              sits =
+                  at_longer s.views (w ∷ []) o.seat o.holder o.sits;
+              holds = o.holds;
+            })) r.slot;
       }
     where
-      pairs : (j k : ℕ) (a b : SeatView E G) → j ≢ k → get_elem? (s.views ++ w ∷ []) j ≡ some a → get_elem? (s.views ++ w ∷ []) k ≡ some b → Apart a b
+      pairs : (j k : ℕ) (a b : SeatView E G) → j ≢ k → get_elem? (s.views ++ w ∷ []) j ≡ some a
+          → get_elem? (s.views ++ w ∷ []) k ≡ some b → Apart a b
       pairs j k a b apart e h =
           ⊎_elim
           (λ (old : get_elem? s.views j ≡ some a). ⊎_elim
@@ -166,7 +192,8 @@ module _ {K E G : Type 0} (m : Ghosts K E G) (footing : G) (seats : ℕ) where
           (λ (new : (k ≡ length s.views) × (w ≡ b)). subst (λ (x : SeatView E G). Apart a x) new.1 (others j a old))
           (snoc_at s.views w b k h))
           (λ (new : (j ≡ length s.views) × (w ≡ a)). ⊎_elim
-          (λ (old : get_elem? s.views k ≡ some b). turned_apart b a (subst (λ (x : SeatView E G). Apart b x) new.1 (others k b old)))
+          (λ (old : get_elem? s.views k ≡ some b). turned_apart b a
+          (subst (λ (x : SeatView E G). Apart b x) new.1 (others k b old)))
           (λ (new' : (k ≡ length s.views) × (w ≡ b)). absurd (apart (new.0 ∙ sym new'.0)))
           (snoc_at s.views w b k h))
           (snoc_at s.views w a j e)

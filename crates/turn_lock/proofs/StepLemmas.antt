@@ -1,5 +1,7 @@
 -- Each kind of step of one seat keeps the rule.
-use Rattle.std.proofs.Common.{◌≡◌, ◌≢◌, ℕ, ◌+◌, ◌%◌, ◌^◌, ◌<◌, ◌≤◌, true, false, List, [], ◌∷◌, ◌++◌, length, get_or, set, All, Contains, sum_by, Some, None, refl, sym, ap, ◌∙◌, subst, inl, inr, ⊎_elim, arith, true≢false, length-append}
+use Rattle.std.proofs.Common.{◌≡◌, ◌≢◌, ℕ, ◌+◌, ◌%◌, ◌^◌, ◌<◌, ◌≤◌, true, false, List, [], ◌∷◌, ◌++◌}
+use Rattle.std.proofs.Common.{length, get_or, set, All, Contains, sum_by, Some, None, refl, sym, ap}
+use Rattle.std.proofs.Common.{◌∙◌, subst, inl, inr, ⊎_elim, arith, true≢false, length-append}
 use mathlib.Core.Logic.{dite}
 use mathlib.Core.List.{IsPrefix}
 use mathlib.Core.Option.{Option as Maybe, none, some, some-injective}
@@ -19,7 +21,8 @@ use Rattle.turn_lock.specs.declared.view.SeatView.{SeatView}
 use Rattle.turn_lock.specs.declared.kept.Kept.{Ghosts}
 use Rattle.turn_lock.specs.Entries.{of}
 use Rattle.turn_lock.specs.Views.{known, waiting, at_turn, counted, published, loaded, passed_on}
-use Rattle.turn_lock.specs.Rule.{LockState, atomic_words, value, with_value, out, living, Saw, Absorbed, Posted, IsHome, IsOut, Ruled}
+use Rattle.turn_lock.specs.Rule.{LockState, atomic_words, value, with_value, out}
+use Rattle.turn_lock.specs.Rule.{living, Saw, Absorbed, Posted, IsHome, IsOut, Ruled}
 use Rattle.turn_lock.specs.Steps.{atomic_word_of, drawn, looked, counts, publishes, Loads, loads, passes_on}
 use Rattle.turn_lock.proofs.ListLemmas.{at_get, sum_le, prefix_same, prefix_more, of_other}
 use Rattle.turn_lock.proofs.RuleLemmas.{some_none, same_number, change, slot_kept, still_fits, idle_fits, others_wait}
@@ -31,28 +34,38 @@ some_step = step 0 0 0 0 none
 -- ---- The words after a step
 
 module _ {E : Type 0} where
-  draw_words : (ws : List ℕ) (t : LockState E) → ws ≡ atomic_words t → set ws 0 ((get_or ws 0 0 + 1) % 2 ^ 64) ≡ atomic_words (record t { ticket = t.ticket + 1 })
-  draw_words ws t e = rw e (ap (λ n. n ∷ t.serving % 2 ^ 64 ∷ length t.log ∷ t.cycles ∷ t.tickets ∷ []) (mod-add-mod t.ticket (2 ^ 64) 1))
+  draw_words : (ws : List ℕ) (t : LockState E) → ws ≡ atomic_words t
+      → set ws 0 ((get_or ws 0 0 + 1) % 2 ^ 64) ≡ atomic_words (record t { ticket = t.ticket + 1 })
+  draw_words ws t e =
+      rw e (ap (λ n. n ∷ t.serving % 2 ^ 64 ∷ length t.log ∷ t.cycles ∷ t.tickets ∷ [])
+      (mod-add-mod t.ticket (2 ^ 64) 1))
 
-  pass_words : (ws : List ℕ) (t : LockState E) → ws ≡ atomic_words t → set ws 1 ((get_or ws 1 0 + 1) % 2 ^ 64) ≡ atomic_words (record t { serving = t.serving + 1 })
-  pass_words ws t e = rw e (ap (λ n. t.ticket % 2 ^ 64 ∷ n ∷ length t.log ∷ t.cycles ∷ t.tickets ∷ []) (mod-add-mod t.serving (2 ^ 64) 1))
+  pass_words : (ws : List ℕ) (t : LockState E) → ws ≡ atomic_words t
+      → set ws 1 ((get_or ws 1 0 + 1) % 2 ^ 64) ≡ atomic_words (record t { serving = t.serving + 1 })
+  pass_words ws t e =
+      rw e (ap (λ n. t.ticket % 2 ^ 64 ∷ n ∷ length t.log ∷ t.cycles ∷ t.tickets ∷ [])
+      (mod-add-mod t.serving (2 ^ 64) 1))
 
-  count_words : (ws : List ℕ) (t : LockState E) (e : E) (log : List E) → ws ≡ atomic_words t → log ≡ t.log ++ e ∷ [] → length log < 2 ^ 64
+  count_words : (ws : List ℕ) (t : LockState E) (e : E) (log : List E) → ws ≡ atomic_words t → log ≡ t.log ++ e ∷ []
+      → length log < 2 ^ 64
       → set ws 2 ((get_or ws 2 0 + 1) % 2 ^ 64) ≡ atomic_words (record t { log = log })
   count_words ws t e log is more few =
       let n : length log ≡ length t.log + 1 = ap length more ∙ length-append t.log (e ∷ []) in
       let long : (length t.log + 1) % 2 ^ 64 ≡ length log = mod-eq_of_lt (subst (λ k. k < 2 ^ 64) n few) ∙ sym n in
       rw is (ap (λ k. t.ticket % 2 ^ 64 ∷ t.serving % 2 ^ 64 ∷ k ∷ t.cycles ∷ t.tickets ∷ []) long)
 
-  publish_words : (which : Shown) (ws : List ℕ) (t : LockState E) (n : ℕ) → ws ≡ atomic_words t → set ws (atomic_word_of which) n ≡ atomic_words (with_value which n t)
+  publish_words : (which : Shown) (ws : List ℕ) (t : LockState E) (n : ℕ) → ws ≡ atomic_words t
+      → set ws (atomic_word_of which) n ≡ atomic_words (with_value which n t)
   publish_words Cycles ws t n e = rw e refl
   publish_words Tickets ws t n e = rw e refl
 
-  load_words : (which : Shown) (ws : List ℕ) (t : LockState E) → ws ≡ atomic_words t → set ws (atomic_word_of which) (get_or ws (atomic_word_of which) 0) ≡ atomic_words t
+  load_words : (which : Shown) (ws : List ℕ) (t : LockState E) → ws ≡ atomic_words t
+      → set ws (atomic_word_of which) (get_or ws (atomic_word_of which) 0) ≡ atomic_words t
   load_words Cycles ws t e = rw e refl
   load_words Tickets ws t e = rw e refl
 
-  load_finds : (which : Shown) (ws : List ℕ) (t : LockState E) → ws ≡ atomic_words t → get_or ws (atomic_word_of which) 0 ≡ value which t
+  load_finds : (which : Shown) (ws : List ℕ) (t : LockState E) → ws ≡ atomic_words t
+      → get_or ws (atomic_word_of which) 0 ≡ value which t
   load_finds Cycles ws t e = rw e refl
   load_finds Tickets ws t e = rw e refl
 
@@ -60,14 +73,16 @@ module _ {E : Type 0} where
 
 module _ {E : Type 0} where
   -- no published number falls by a publish
-  value_grows : (which each : Shown) (t : LockState E) (n : ℕ) → value which t ≤ n → value each t ≤ value each (with_value which n t)
+  value_grows : (which each : Shown) (t : LockState E) (n : ℕ) → value which t ≤ n
+      → value each t ≤ value each (with_value which n t)
   value_grows Cycles Cycles t n low = low
   value_grows Cycles Tickets t n low = omega arith
   value_grows Tickets Cycles t n low = omega arith
   value_grows Tickets Tickets t n low = low
 
   -- and it is not above what the list has, if the one that was stored is not
-  value_within : (which each : Shown) (t : LockState E) (n : ℕ) (most : Shown → ℕ) → ((other : Shown) → value other t ≤ most other) → n ≤ most which → value each (with_value which n t) ≤ most each
+  value_within : (which each : Shown) (t : LockState E) (n : ℕ) (most : Shown → ℕ)
+      → ((other : Shown) → value other t ≤ most other) → n ≤ most which → value each (with_value which n t) ≤ most each
   value_within Cycles Cycles t n most old new = new
   value_within Cycles Tickets t n most old new = old Tickets
   value_within Tickets Cycles t n most old new = old Cycles
@@ -85,26 +100,36 @@ module _ {E G : Type 0} where
   counted_posted : (v : SeatView E G) (now : List E) (shown : Shown → List E → ℕ) (there : Shown → ℕ)
       → ((which : Shown) → Posted (there which) (shown which) (known which v) v.holds v.seen) → v.holds ≡ true
       → (which : Shown) → Posted (there which) (shown which) (known which (counted now v)) v.holds now
-  counted_posted v now shown there p holds Cycles = record { knows = (p Cycles).knows; current = λ e. absurd (true≢false e); owes = λ _. holds }
-  counted_posted v now shown there p holds Tickets = record { knows = (p Tickets).knows; current = λ e. absurd (true≢false e); owes = λ _. holds }
+  counted_posted v now shown there p holds Cycles =
+      record { knows = (p Cycles).knows; current = λ e. absurd (true≢false e); owes = λ _. holds }
+  counted_posted v now shown there p holds Tickets =
+      record { knows = (p Tickets).knows; current = λ e. absurd (true≢false e); owes = λ _. holds }
 
   -- after a publish this one is owed no longer
   published_posted : (which : Shown) (v : SeatView E G) (n : ℕ) (shown : Shown → List E → ℕ) (t : LockState E)
-      → ((each : Shown) → Posted (value each t) (shown each) (known each v) v.holds v.seen) → value which t ≤ n → shown which v.seen ≡ n
-      → (each : Shown) → Posted (value each (with_value which n t)) (shown each) (known each (published which v)) v.holds v.seen
-  published_posted Cycles v n shown t p low is Cycles = let k = (p Cycles).knows in record { knows = omega arith; current = λ _. omega arith; owes = λ e. absurd (true≢false (sym e)) }
+      → ((each : Shown) → Posted (value each t) (shown each) (known each v) v.holds v.seen) → value which t ≤ n
+      → shown which v.seen ≡ n
+      → (each : Shown)
+      → Posted (value each (with_value which n t)) (shown each) (known each (published which v)) v.holds v.seen
+  published_posted Cycles v n shown t p low is Cycles =
+      let k = (p Cycles).knows in
+      record { knows = omega arith; current = λ _. omega arith; owes = λ e. absurd (true≢false (sym e)) }
   published_posted Cycles v n shown t p low is Tickets = p Tickets
   published_posted Tickets v n shown t p low is Cycles = p Cycles
-  published_posted Tickets v n shown t p low is Tickets = let k = (p Tickets).knows in record { knows = omega arith; current = λ _. omega arith; owes = λ e. absurd (true≢false (sym e)) }
+  published_posted Tickets v n shown t p low is Tickets =
+      let k = (p Tickets).knows in
+      record { knows = omega arith; current = λ _. omega arith; owes = λ e. absurd (true≢false (sym e)) }
 
   -- after a load the number that was found is known
   loaded_posted : (which : Shown) (v : SeatView E G) (n : ℕ) (shown : Shown → List E → ℕ) (there : Shown → ℕ)
       → ((each : Shown) → Posted (there each) (shown each) (known each v) v.holds v.seen) → n ≡ there which
       → (each : Shown) → Posted (there each) (shown each) (known each (loaded which n v)) v.holds v.seen
-  loaded_posted Cycles v n shown there p is Cycles = record { knows = omega arith; current = (p Cycles).current; owes = (p Cycles).owes }
+  loaded_posted Cycles v n shown there p is Cycles =
+      record { knows = omega arith; current = (p Cycles).current; owes = (p Cycles).owes }
   loaded_posted Cycles v n shown there p is Tickets = p Tickets
   loaded_posted Tickets v n shown there p is Cycles = p Cycles
-  loaded_posted Tickets v n shown there p is Tickets = record { knows = omega arith; current = (p Tickets).current; owes = (p Tickets).owes }
+  loaded_posted Tickets v n shown there p is Tickets =
+      record { knows = omega arith; current = (p Tickets).current; owes = (p Tickets).owes }
 
 -- what stands in the hands of the turn's holder
 abbrev named_in : {K : Type 0} → Snapshot K → List (ℕ × Spot K) → Snapshot K
@@ -120,7 +145,8 @@ served_on n k le ne = omega arith
 
 module _ {K E G : Type 0} (m : Ghosts K E G) (footing : G) (seats : ℕ) where
   -- two tickets that are out lie less than 2 ^ 64 apart, so they are one where their remainders are
-  near : (s : State (Spot K) (SeatView E G)) (r : Ruled m footing seats s) (n : ℕ) → r.at.serving ≤ n → n < r.at.ticket → r.at.serving % 2 ^ 64 ≡ n % 2 ^ 64 → r.at.serving ≡ n
+  near : (s : State (Spot K) (SeatView E G)) (r : Ruled m footing seats s) (n : ℕ) → r.at.serving ≤ n → n < r.at.ticket
+      → r.at.serving % 2 ^ 64 ≡ n % 2 ^ 64 → r.at.serving ≡ n
   near s r n low high same =
       let few : sum_by out s.views ≤ sum_by living s.views = sum_le out living s.views (λ i v e. (r.fits i v e).one) in
       let many = r.as_many in
@@ -162,19 +188,23 @@ module _ {K E G : Type 0} (m : Ghosts K E G) (footing : G) (seats : ℕ) where
               posted = f.posted;
             })
             (λ j u apart e a g. (
-              still_fits m footing seats s.homes s.homes r.at (r.at.ticket + 1) r.at.serving u g (λ n h. let b = g.within n h in (b.0, omega arith)) g.turn,
+              still_fits m footing seats s.homes s.homes r.at (r.at.ticket + 1) r.at.serving u g
+                  (λ n h. let b = g.within n h in (b.0, omega arith)) g.turn,
               record {
                 tickets = λ n e h. let same : r.at.ticket ≡ n = cc in let b = g.within n h in omega arith;
                 numbers = a.numbers;
                 counts = a.counts;
               },
             ))
-            (slot_kept m footing seats s r i v w at t (λ h. record { kept = h.kept; there = h.there; list = h.list; ground_is = h.ground_is; current = h.current }) (λ h. h)),
+            (slot_kept m footing seats s r i v w at t
+            (λ h. record
+            { kept = h.kept; there = h.there; list = h.list; ground_is = h.ground_is; current = h.current }) (λ h. h)),
         (r.at.ticket, refl, ap (λ ws. get_or ws 0 0) r.words_are),
       )
 
   -- the seat that waits with the served ticket finds the value at home
-  home_now : (s : State (Spot K) (SeatView E G)) (r : Ruled m footing seats s) (i : ℕ) (v : SeatView E G) → get_elem? s.views i ≡ some v → v.holds ≡ false → v.number ≡ Some r.at.serving
+  home_now : (s : State (Spot K) (SeatView E G)) (r : Ruled m footing seats s) (i : ℕ) (v : SeatView E G)
+      → get_elem? s.views i ≡ some v → v.holds ≡ false → v.number ≡ Some r.at.serving
       → IsHome m footing s.homes r.at
   home_now s r i v at waits mine = ⊎_elim (λ h. h) (λ (o : IsOut s.homes s.views). not_out o) r.slot
     where
@@ -183,9 +213,11 @@ module _ {K E G : Type 0} (m : Ghosts K E G) (footing : G) (seats : ℕ) where
           (λ here. let same : o.holder ≡ v = some-injective _ _ (sym o.sits ∙ ap (get_elem? s.views) here ∙ at) in
           absurd (true≢false (sym o.holds ∙ ap (λ (u : SeatView E G). u.holds) same ∙ waits)))
           (λ there. let f = r.fits o.seat o.holder o.sits in
-          absurd ((r.apart i o.seat v o.holder (λ h. there (sym h)) at o.sits).tickets r.at.serving mine (f.turn o.holds).0))
+          absurd ((r.apart i o.seat v o.holder (λ h. there (sym h)) at o.sits).tickets r.at.serving mine
+          (f.turn o.holds).0))
 
-  pub looks : (slots : ℕ) (i : ℕ) (me : Me (Spot K) (SeatView E G)) (ticket : ℕ) → me.0.alive ≡ true → me.0.number ≡ Some ticket → me.0.holds ≡ false → me.1 ≡ []
+  pub looks : (slots : ℕ) (i : ℕ) (me : Me (Spot K) (SeatView E G)) (ticket : ℕ) → me.0.alive ≡ true
+      → me.0.number ≡ Some ticket → me.0.holds ≡ false → me.1 ≡ []
       → Allows (Ruled m footing seats) slots i me 1 (λ n. n) (looked m some_step me)
   looks slots i me ticket alive mine waits empty s r long at small =
       let v = me.0 in
@@ -215,7 +247,11 @@ module _ {K E G : Type 0} (m : Ghosts K E G) (footing : G) (seats : ℕ) where
               one = f.one;
               within = f.within;
               turn = λ _. (mine', list, gone);
-              saw = record { begins = subst (λ l. IsPrefix l r.at.log) (sym list) (prefix_same r.at.log); own = λ n c. ap (of m.caller n) list };
+              saw = record {
+                begins = subst (λ l. IsPrefix l r.at.log) (sym list) (prefix_same r.at.log);
+                own =
+                    λ n c. ap (of m.caller n) list;
+              };
               absorbed = f.absorbed;
               ground_is = f.ground_is;
               given = f.given;
@@ -228,10 +264,18 @@ module _ {K E G : Type 0} (m : Ghosts K E G) (footing : G) (seats : ℕ) where
               };
             })
             (λ j u apart e a g. (
-              still_fits m footing seats s.homes (set s.homes 0 none) r.at r.at.ticket r.at.serving u g g.within (λ h. others_wait m footing seats s.homes r.at v u mine' a g h),
+              still_fits m footing seats s.homes (set s.homes 0 none) r.at r.at.ticket r.at.serving u g g.within
+                  (λ h. others_wait m footing seats s.homes r.at v u mine' a g h),
               record { tickets = a.tickets; numbers = a.numbers; counts = a.counts },
             ))
-            (inr (record { away = gone; seat = i; holder = w; sits = set_here s.views i w ((at_get s.views i v at).0); holds = refl })),
+            (inr (record {
+              away = gone;
+              seat = i;
+              holder = w;
+              sits = set_here s.views i w ((at_get s.views i v at).0);
+              holds =
+                  refl;
+            })),
         λ ticket' mine''. (
           (λ _. record {
             kept = h.kept;
@@ -266,7 +310,8 @@ module _ {K E G : Type 0} (m : Ghosts K E G) (footing : G) (seats : ℕ) where
   -- ---- Steps of the seat that holds the turn
 
   -- of an entry more, at the end of the list: what another seat has seen stays so
-  saw_more : (log : List E) (e : E) (now : List E) (numbers : List ℕ) (seen : List E) → now ≡ log ++ e ∷ [] → ((n : ℕ) → Contains numbers n → m.caller e ≢ n)
+  saw_more : (log : List E) (e : E) (now : List E) (numbers : List ℕ) (seen : List E) → now ≡ log ++ e ∷ []
+      → ((n : ℕ) → Contains numbers n → m.caller e ≢ n)
       → Saw m.caller log numbers seen → Saw m.caller now numbers seen
   saw_more log e now numbers seen more other saw = record {
     begins = subst (IsPrefix seen) (sym more) (prefix_more seen log (e ∷ []) saw.begins);
@@ -275,7 +320,8 @@ module _ {K E G : Type 0} (m : Ghosts K E G) (footing : G) (seats : ℕ) where
 
   pub counts_one : (slots : ℕ) (i : ℕ) (me : Me (Spot K) (SeatView E G)) (named : Snapshot K) (e : E)
       → me.1 ≡ (0, Counted named) ∷ [] → me.0.holds ≡ true → me.0.absorbed ≡ []
-      → m.entries named.value ≡ me.0.seen ++ e ∷ [] → Contains me.0.mine (m.caller e) → length (m.entries named.value) < 2 ^ 64
+      → m.entries named.value ≡ me.0.seen ++ e ∷ [] → Contains me.0.mine (m.caller e)
+      → length (m.entries named.value) < 2 ^ 64
       → Allows (Ruled m footing seats) slots i me 2 (λ n. (n + 1) % 2 ^ 64) (counts m some_step me)
   counts_one slots i me named e has holds absorbed more own few s r long at small =
       let v = me.0 in
@@ -287,7 +333,9 @@ module _ {K E G : Type 0} (m : Ghosts K E G) (footing : G) (seats : ℕ) where
       let longer_by : now ≡ r.at.log ++ e ∷ [] = more ∙ ap (λ l. l ++ e ∷ []) turn.1 in
       let given = f.given (m.caller e) own in
       let shows : (which : Shown) → value which r.at ≤ m.shown which now =
-      λ which. let a = r.published which in let b = m.shown_grows which r.at.log (e ∷ []) in let c = ap (m.shown which) longer_by in omega arith in (
+      λ which. let a =
+      r.published which in let b =
+      m.shown_grows which r.at.log (e ∷ []) in let c = ap (m.shown which) longer_by in omega arith in (
         w,
         keeps,
         tt,
@@ -296,7 +344,8 @@ module _ {K E G : Type 0} (m : Ghosts K E G) (footing : G) (seats : ℕ) where
             (omega arith)
             (omega arith)
             (omega arith, r.most.0)
-            (λ n high. ap (of m.caller n) longer_by ∙ of_other m.caller n r.at.log e (λ h. omega arith) ∙ r.callers n high)
+            (λ n high. ap (of m.caller n) longer_by ∙ of_other m.caller n r.at.log e (λ h. omega arith)
+            ∙ r.callers n high)
             shows
             (record {
               one = f.one;
@@ -315,9 +364,11 @@ module _ {K E G : Type 0} (m : Ghosts K E G) (footing : G) (seats : ℕ) where
                 one = g.one;
                 within = g.within;
                 turn = λ h. others_wait m footing seats s.homes r.at v u turn.0 a g h;
-                saw = saw_more r.at.log e now u.mine u.seen longer_by (λ n c h. a.numbers n (subst (Contains v.mine) h own) c) g.saw;
+                saw = saw_more r.at.log e now u.mine u.seen longer_by
+                    (λ n c h. a.numbers n (subst (Contains v.mine) h own) c) g.saw;
                 absorbed = λ k d lt. let x = g.absorbed k d lt in record {
-                  saw = saw_more r.at.log e now _ _ longer_by (λ n c h. a.numbers n (subst (Contains v.mine) h own) (x.within n c)) x.saw;
+                  saw = saw_more r.at.log e now _ _ longer_by
+                      (λ n c h. a.numbers n (subst (Contains v.mine) h own) (x.within n c)) x.saw;
                   within = x.within;
                 };
                 ground_is = g.ground_is;
@@ -328,11 +379,20 @@ module _ {K E G : Type 0} (m : Ghosts K E G) (footing : G) (seats : ℕ) where
               },
               record { tickets = a.tickets; numbers = a.numbers; counts = a.counts },
             ))
-            (inr (record { away = turn.2; seat = i; holder = w; sits = set_here s.views i w ((at_get s.views i v at).0); holds = holds })),
-        λ named' has'. let same : named ≡ named' = ap (named_in named) (sym has ∙ has') in ap (λ (x : Snapshot K). (counted (m.entries x.value) v, me.1)) same,
+            (inr (record {
+              away = turn.2;
+              seat = i;
+              holder = w;
+              sits = set_here s.views i w ((at_get s.views i v at).0);
+              holds =
+                  holds;
+            })),
+        λ named' has'. let same : named ≡ named' =
+            ap (named_in named) (sym has ∙ has') in ap (λ (x : Snapshot K). (counted (m.entries x.value) v, me.1)) same,
       )
 
-  pub publishes_one : (slots : ℕ) (st : Step (Spot K)) (i : ℕ) (me : Me (Spot K) (SeatView E G)) (which : Shown) (n : ℕ) → st.word ≡ atomic_word_of which
+  pub publishes_one : (slots : ℕ) (st : Step (Spot K)) (i : ℕ) (me : Me (Spot K) (SeatView E G)) (which : Shown) (n : ℕ)
+      → st.word ≡ atomic_word_of which
       → me.0.holds ≡ true → n ≡ m.shown which me.0.seen
       → Allows (Ruled m footing seats) slots i me (atomic_word_of which) (λ _. n) (λ _. publishes st me n)
   publishes_one slots st i me which n word holds is s r long at small =
@@ -384,11 +444,19 @@ module _ {K E G : Type 0} (m : Ghosts K E G) (footing : G) (seats : ℕ) where
               },
               record { tickets = a.tickets; numbers = a.numbers; counts = a.counts },
             ))
-            (inr (record { away = turn.2; seat = i; holder = w; sits = set_here s.views i w ((at_get s.views i v at).0); holds = holds })),
+            (inr (record {
+              away = turn.2;
+              seat = i;
+              holder = w;
+              sits = set_here s.views i w ((at_get s.views i v at).0);
+              holds =
+                  holds;
+            })),
         λ each same. ap (λ k. (published k v, me.1)) (same_word which each (sym word ∙ same)),
       )
 
-  pub loads_one : (slots : ℕ) (st : Step (Spot K)) (i : ℕ) (me : Me (Spot K) (SeatView E G)) (which : Shown) → st.word ≡ atomic_word_of which
+  pub loads_one : (slots : ℕ) (st : Step (Spot K)) (i : ℕ) (me : Me (Spot K) (SeatView E G)) (which : Shown)
+      → st.word ≡ atomic_word_of which
       → Allows (Ruled m footing seats) slots i me (atomic_word_of which) (λ n. n) (loads m st me)
   loads_one slots st i me which word s r long at small =
       let v = me.0 in
@@ -426,8 +494,10 @@ module _ {K E G : Type 0} (m : Ghosts K E G) (footing : G) (seats : ℕ) where
             ),
       )
 
-  pub passes : (slots : ℕ) (i : ℕ) (me : Me (Spot K) (SeatView E G)) (kept : K) → me.1 ≡ (0, Home kept) ∷ [] → me.0.alive ≡ true → me.0.holds ≡ true
-      → m.entries kept ≡ me.0.seen → me.0.footing ≡ Some (m.footing kept) → ((which : Shown) → (known which me.0).owes ≡ false)
+  pub passes : (slots : ℕ) (i : ℕ) (me : Me (Spot K) (SeatView E G)) (kept : K) → me.1 ≡ (0, Home kept) ∷ []
+      → me.0.alive ≡ true → me.0.holds ≡ true
+      → m.entries kept ≡ me.0.seen → me.0.footing ≡ Some (m.footing kept)
+      → ((which : Shown) → (known which me.0).owes ≡ false)
       → Allows (Ruled m footing seats) slots i me 1 (λ n. (n + 1) % 2 ^ 64) (passes_on some_step me)
   passes slots i me kept has alive holds list ground_is paid s r long at small =
       let v = me.0 in
@@ -447,11 +517,15 @@ module _ {K E G : Type 0} (m : Ghosts K E G) (footing : G) (seats : ℕ) where
             (omega arith, r.most.0)
             r.callers
             r.published
-            (idle_fits m footing seats (homes_after s.homes me.1 gives) t w refl refl f.saw f.absorbed f.ground_is f.given f.owner f.counts
-            (λ which. let p = f.posted which in record { knows = p.knows; current = p.current; owes = λ e. absurd (true≢false (sym e ∙ paid which)) }))
+            (idle_fits m footing seats (homes_after s.homes me.1 gives) t w refl refl f.saw f.absorbed f.ground_is
+            f.given f.owner f.counts
+            (λ which. let p = f.posted which in
+            record { knows = p.knows; current = p.current; owes = λ e. absurd (true≢false (sym e ∙ paid which)) }))
             (λ j u apart e a g. (
-              still_fits m footing seats s.homes (homes_after s.homes me.1 gives) r.at r.at.ticket (r.at.serving + 1) u g
-                  (λ n h. let b = g.within n h in (served_on n r.at.serving b.0 (λ same. a.tickets n (turn.0 ∙ ap Some (sym same)) h), b.1))
+              still_fits m footing seats s.homes (homes_after s.homes me.1 gives) r.at r.at.ticket (r.at.serving + 1) u
+                  g
+                  (λ n h. let b = g.within n h in
+                  (served_on n r.at.serving b.0 (λ same. a.tickets n (turn.0 ∙ ap Some (sym same)) h), b.1))
                   (λ h. others_wait m footing seats s.homes r.at v u turn.0 a g h),
               record { tickets = λ n e' h. absurd (cc); numbers = a.numbers; counts = a.counts },
             ))
@@ -460,7 +534,8 @@ module _ {K E G : Type 0} (m : Ghosts K E G) (footing : G) (seats : ℕ) where
               there = home;
               list = list ∙ turn.1;
               ground_is = same_Some _ _ (sym ground_is ∙ f.ground_is alive);
-              current = λ which. subst (λ l. m.shown which l ≤ value which r.at) turn.1 ((f.posted which).current (paid which));
+              current = λ which. subst (λ l. m.shown which l ≤ value which r.at) turn.1
+                  ((f.posted which).current (paid which));
             })),
         ap (λ (l : List (ℕ × Spot K)). (w, rest l)) has,
       )

@@ -1,5 +1,6 @@
-//! The turn lock: threads take turns at one value, in the order in which they asked for it, each with a pass of its own.
-//! Of one list of entries, which the turns make longer, each pass has seen a prefix, and knows its own entries whole.
+//! The turn lock: threads take turns at one value, in the order in which they asked for it, each with a pass of its
+//! own. Of one list of entries, which the turns make longer, each pass has seen a prefix, and knows its own entries
+//! whole.
 #![tactic(auto)]
 
 pub use kept::{Kept, Shown};

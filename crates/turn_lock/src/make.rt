@@ -17,8 +17,8 @@ use std::alloc::Global;
 use std::snapshot::Snapshot;
 
 impl<K: Kept + Drop> TurnLock<K> {
-    /// A lock that keeps this value, which has no entries yet, and its passes in order of their numbers. Without memory the
-    /// value is dropped.
+    /// A lock that keeps this value, which has no entries yet, and its passes in order of their numbers. Without memory
+    /// the value is dropped.
     pub fn make(
         alloc: Global,
         kept: K,

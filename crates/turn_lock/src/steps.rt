@@ -14,7 +14,8 @@ impl<K: Kept> Play<Spot<K>, SeatView<K::Entry, K::Ground>> for Draws {
     ghost then = { drawn };
 }
 
-/// Looks whether its ticket is served: the served number is loaded. Where it is, the seat takes the value with the same step.
+/// Looks whether its ticket is served: the served number is loaded. Where it is, the seat takes the value with the same
+/// step.
 pub struct Looks;
 
 impl<K: Kept> Play<Spot<K>, SeatView<K::Entry, K::Ground>> for Looks {

@@ -17,7 +17,8 @@ use std::sync::Wait;
 use std::time::Duration;
 
 impl<K: Kept> TurnLock<K> {
-    /// Waits for the turn, and hands out the kept value. No other pass holds the turn until this one puts the value back.
+    /// Waits for the turn, and hands out the kept value. No other pass holds the turn until this one puts the value
+    /// back.
     pub fn take<R: Wait>(&self, rt: &R, pass: &mut TurnPass<K>) -> K
         requires ready { IsReady self.now pass.old }
         ensures taken { Takes pass.old pass.new result }
@@ -26,8 +27,8 @@ impl<K: Kept> TurnLock<K> {
         self.wait(rt, &mut pass.seat, mine)
     }
 
-    /// Counts the one entry that `kept` has at its end beyond those that were counted. The value stays with the caller, and the
-    /// numbers that are published of its list are owed until `put`.
+    /// Counts the one entry that `kept` has at its end beyond those that were counted. The value stays with the caller,
+    /// and the numbers that are published of its list are owed until `put`.
     pub fn count(&self, pass: &mut TurnPass<K>, kept: &K)
         requires turn { HasTurn self.now pass.old }
         requires added { AddsOne pass.old kept.now }
@@ -50,8 +51,8 @@ impl<K: Kept> TurnLock<K> {
             .store::<Publishes>(&mut pass.seat, atomic_word_of(which), n);
     }
 
-    /// Puts the value back and passes the turn on. All entries are counted; where this turn counted one, both numbers were
-    /// published after it.
+    /// Puts the value back and passes the turn on. All entries are counted; where this turn counted one, both numbers
+    /// were published after it.
     pub fn put(&self, pass: &mut TurnPass<K>, kept: K)
         requires turn { HasTurn self.now pass.old }
         requires settled { IsSettled pass.old kept }
@@ -79,8 +80,8 @@ impl<K: Kept> TurnLock<K> {
             .load::<Loads>(&mut pass.seat, atomic_word_of(which))
     }
 
-    /// Sleeps for at most so many microseconds, if this number is still published. It takes no turn, and no publish wakes
-    /// it. It may also return at once.
+    /// Sleeps for at most so many microseconds, if this number is still published. It takes no turn, and no publish
+    /// wakes it. It may also return at once.
     pub fn rest<R: Wait>(&self, rt: &R, which: Shown, n: u64, micros: u64) {
         let word = atomic_word_of(which);
         let low_bits = (n % (1 << 32)) as u32;

@@ -1,4 +1,5 @@
-//! What a seat of the lock's table knows. No value of these types is made: they stand in proofs alone, where a `u64` is any whole number.
+//! What a seat of the lock's table knows. No value of these types is made: they stand in proofs alone, where a `u64` is
+//! any whole number.
 
 use std::collections::LinkedList;
 

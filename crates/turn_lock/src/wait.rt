@@ -14,8 +14,8 @@ use std::{hint, thread};
 /// How often a pass looks before it lets other threads run: a turn that ends soon comes sooner than another thread.
 const LOOKS: u32 = 16;
 
-/// How often a pass lets other threads run before it sleeps. A sleep and its end cost more than a turn. So if more passes want
-/// turns than there are processors, and all sleep at once, few turns are taken.
+/// How often a pass lets other threads run before it sleeps. A sleep and its end cost more than a turn. So if more
+/// passes want turns than there are processors, and all sleep at once, few turns are taken.
 const YIELDS: u32 = 16;
 
 impl<K: Kept> TurnLock<K> {

@@ -120,8 +120,8 @@ does not fit
 does not fit
 done";
 
-/// A mock refuses, is not ready, and fails, as its parameters say, also where it has as many claims as a controller may have and
-/// lists as many cycles as a run may have.
+/// A mock refuses, is not ready, and fails, as its parameters say, also where it has as many claims as a controller may
+/// have and lists as many cycles as a run may have.
 pub const MOCKS: &str = "\
 mock 1, refuses
 configure

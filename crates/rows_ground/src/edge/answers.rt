@@ -1,5 +1,5 @@
-//! Sources and sinks over a reader or a writer of std that answers each call as it is told to: what is made of an end and of each fault,
-//! and how many calls there are.
+//! Sources and sinks over a reader or a writer of std that answers each call as it is told to: what is made of an end
+//! and of each fault, and how many calls there are.
 
 use super::{push_call, push_count};
 use outside_io::{Failed, Sink, Source, StdSink, StdSource, read_whole};
@@ -17,8 +17,8 @@ fn each_answer_of_the_system_is_passed_on(rt: HostRuntime) -> Result<(), Fail> {
     hold_lines(alloc, &Writes, "", WRITES)
 }
 
-/// A reader and writer of std whose calls are answered by these words, one a call: a number gives, takes or flushes so many bytes, and
-/// each other word is a fault. There are no calls behind the last word: they fail.
+/// A reader and writer of std whose calls are answered by these words, one a call: a number gives, takes or flushes so
+/// many bytes, and each other word is a fault. There are no calls behind the last word: they fail.
 #[derive(Drop)]
 struct Answering<'a> {
     words: &'a str,
@@ -68,8 +68,8 @@ impl Write for Answering<'_> {
     }
 }
 
-/// Tells what reads of eight bytes give, and a whole read of twenty at most, of `READS | ANSWERS`; and then how many calls were made of the
-/// reader.
+/// Tells what reads of eight bytes give, and a whole read of twenty at most, of `READS | ANSWERS`; and then how many
+/// calls were made of the reader.
 #[derive(Clone, Copy)]
 struct Reads;
 
@@ -128,7 +128,8 @@ fn push_calls_made(told: &mut String, calls: usize) -> Result<(), Fail> {
     Ok(())
 }
 
-/// Tells what writes and flushes give, of `PIECES | ANSWERS`, between which strokes stand; and then how many calls were made of the writer.
+/// Tells what writes and flushes give, of `PIECES | ANSWERS`, between which strokes stand; and then how many calls were
+/// made of the writer.
 #[derive(Clone, Copy)]
 struct Writes;
 
@@ -154,7 +155,8 @@ fn push_pieces(told: &mut String, writer: &mut Answering<'_>, pieces: &str) -> R
     Ok(())
 }
 
-/// An end is one where it is told first, and is read once, before any byte and behind some; no fault but an interruption is tried again.
+/// An end is one where it is told first, and is read once, before any byte and behind some; no fault but an
+/// interruption is tried again.
 const READS: &str = "\
 read | 0 => 0; 1
 read read | 5 0 => 5, 0; 2

@@ -23,8 +23,8 @@ const LONGEST: usize = 20_000;
 /// Bytes whose order is seen go up by one, and begin anew behind this one.
 const LAST_BYTE: u8 = 250;
 
-/// A writer of std that takes so many bytes at most a write, fails in one of its calls, and notes how many bytes it was offered in each;
-/// a flush is a call that is offered none.
+/// A writer of std that takes so many bytes at most a write, fails in one of its calls, and notes how many bytes it was
+/// offered in each; a flush is a call that is offered none.
 #[derive(Drop)]
 struct Watched {
     step: usize,
@@ -168,8 +168,8 @@ fn push_offers(told: &mut String, writer: &Watched) -> Result<(), Fail> {
     Ok(())
 }
 
-/// Short pieces and long ones; a writer that takes a part; a write that fails, first and after a part, and what is written then; a flush
-/// that fails, and one whose write fails.
+/// Short pieces and long ones; a writer that takes a part; a write that fails, first and after a part, and what is
+/// written then; a flush that fails, and one whose write fails.
 const GATHERED: &str = "\
 9999 | 99 | 100 100 flush => all, all, flushed in order: 200 0
 9999 | 99 | 8191 1 1 flush => all, all, all, flushed in order: 8192 1 0

@@ -58,7 +58,8 @@ const WRITES: &str = "\
 /all hello/flush => 0, all, flushed: hello
 hello/flush/ world/ and more => 5, flushed, 6, 9: hello";
 
-/// Tells what writes and flushes give over room for three bytes. A full writer takes none of a piece, which is a failure.
+/// Tells what writes and flushes give over room for three bytes. A full writer takes none of a piece, which is a
+/// failure.
 #[derive(Clone, Copy)]
 struct FullWrites;
 
@@ -118,8 +119,8 @@ impl Write for Interrupted {
     }
 }
 
-/// Tells what a read, a write with its flush, and a flush give where the first call is interrupted so many times, and then each goes
-/// well or `fails`.
+/// Tells what a read, a write with its flush, and a flush give where the first call is interrupted so many times, and
+/// then each goes well or `fails`.
 #[derive(Clone, Copy)]
 struct ThreeCalls;
 

@@ -8,8 +8,9 @@ use std::test::Fail;
 /// What a key is given: nothing, and a value of each type of TOML.
 const GIVEN: &str = "nothing\n7\n1.5\n\"x1\"\ntrue\n1979-05-27\n[]\n{}";
 
-/// A table with the keys that it must have, and what stands before its lines. Of a key, it tells what becomes of each value that
-/// the key is given, a letter for each: `r` the table is read, `k` a bad key, `f` a float given, `b` a bad value.
+/// A table with the keys that it must have, and what stands before its lines. Of a key, it tells what becomes of each
+/// value that the key is given, a letter for each: `r` the table is read, `k` a bad key, `f` a float given, `b` a bad
+/// value.
 #[derive(Clone, Copy)]
 struct Table {
     before: &'static str,

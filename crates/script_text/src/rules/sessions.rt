@@ -4,7 +4,8 @@ ghost use Rattle.std.specs.Prelude.{◌≡◌, ◌<◌, Ok, IfSome, length, posi
 ghost use Rattle.sequence.specs.Answers.{Answers};
 ghost use Rattle.sequence.specs.Last.{in_last};
 ghost use Rattle.iface_names.specs.Names.{same_name};
-ghost use Rattle.cm_document.specs.ScriptRules.{is_used, session_accepted, is_session_line, then_calling, session_number};
+ghost use Rattle.cm_document.specs.ScriptRules.{is_used, session_accepted, is_session_line};
+ghost use Rattle.cm_document.specs.ScriptRules.{then_calling, session_number};
 
 use crate::rules::Draft;
 use cm_document::{Call, Grammar, ScriptFault, SessionText};

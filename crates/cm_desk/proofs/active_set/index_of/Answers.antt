@@ -9,5 +9,6 @@ use Rattle.cm_desk.proofs.active_set.index_of.Goals as goal
 pub returns : goal.returns
 returns g c =
     let ls = c.args.slots.now in
-    let found : c.unwrap_or.result ≡ unwrap_or (position (λ (l : Loaded). l.serial == c.args.serial) ls) 0 = c.unwrap_or.ensures ∙ ap (λ o. unwrap_or o 0) c.position_of.ensures.found in
+    let found : c.unwrap_or.result ≡ unwrap_or (position (λ (l : Loaded). l.serial == c.args.serial) ls) 0 =
+    c.unwrap_or.ensures ∙ ap (λ o. unwrap_or o 0) c.position_of.ensures.found in
     ap (λ (k : ℕ). slice_get (serials_of ls) k) found ∙ stands_at ls c.args.serial c.requires.loaded

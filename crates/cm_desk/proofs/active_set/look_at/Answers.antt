@@ -11,5 +11,6 @@ returns g c =
     let count = length c.args.active.now in
     let i = c.loop-slot.slot-index in
     let all : c.loop-slot.active ≡ noted_all ls (replicate count None) =
-    ap (λ rest. noted_all rest c.loop-slot.active) (sym (drop_all i ls (omega (arith, c.loop-slot-test.false)))) ∙ c.loop-slot.invariant.noted in
+    ap (λ rest. noted_all rest c.loop-slot.active) (sym (drop_all i ls (omega (arith, c.loop-slot-test.false))))
+    ∙ c.loop-slot.invariant.noted in
     subst (TellsActive count ls) (sym all) (told_of_all ls count c.requires)

@@ -9,7 +9,9 @@ use Rattle.cm_desk.proofs.filling.fill_cells.Given as goal
 -- those that cells_filled, and those that are left, are all
 abbrev pub invariant-loop-index : goal.invariant-loop-index
 invariant-loop-index g l = record {
-  all : l.cells.items ++ cells_filled l.slots l.mails.items (drop l.index-index l.run) (reverse l.workspaces.items) (map g.C.Controller.meaning (reverse l.boxes.items))
+  all : l.cells.items
+      ++ cells_filled l.slots l.mails.items (drop l.index-index l.run) (reverse l.workspaces.items)
+      (map g.C.Controller.meaning (reverse l.boxes.items))
       ≡ cells_filled l.slots l.fn.mails.items l.run l.fn.workspaces.items (map g.C.Controller.meaning l.fn.boxes.items);
   workspaces : length l.workspaces.items + l.index-index ≡ length l.run;
   boxes : length l.boxes.items + l.index-index ≡ length l.run;

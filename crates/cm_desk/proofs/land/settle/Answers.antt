@@ -10,8 +10,12 @@ commit-requires-clause-down g c = c.requires.1.down
 pub commit-requires-clause-can : goal.commit-requires-clause-can
 commit-requires-clause-can g c =
     let s = c.requires.0 in
-    let is = c.requires.1 in
-    (landed s (cycle s), stays_active s (told_in s), nobody_again, can_settle s _ _ _ _ _ _ is.landed is.placed (is.ending c.if-context.true))
+    let is = c.requires.1 in (
+      landed s (cycle s),
+      stays_active s (told_in s),
+      nobody_again,
+      can_settle s _ _ _ _ _ _ is.landed is.placed (is.ending c.if-context.true),
+    )
 
 pub returns-then-context-clause-settled : goal.returns-then-context-clause-settled
 returns-then-context-clause-settled g c = λ s is.

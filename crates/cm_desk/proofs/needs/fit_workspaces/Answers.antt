@@ -6,4 +6,8 @@ use Rattle.cm_desk.proofs.needs.fit_workspaces.Goals as goal
 pub returns-then-are_workspaces_of-clause-run : goal.returns-then-are_workspaces_of-clause-run
 returns-then-are_workspaces_of-clause-run c =
     let stands = rw (c.deref.ensures.value) at (c.are_workspaces_of.ensures c.if-are_workspaces_of.true) in
-    record { workspaces = record { stands = stands; fitted = c.requires.kept.fitted }; order = c.requires.kept.ordered ∙ stands_same _ _ stands }
+    record {
+      workspaces = record { stands = stands; fitted = c.requires.kept.fitted };
+      order =
+          c.requires.kept.ordered ∙ stands_same _ _ stands;
+    }

@@ -16,5 +16,8 @@ loop-member-preserved c =
     let d : Member = record { serial = 0; place = 0 } in
     let m : Member = get_or order i d in
     subst (λ (ss : List WorkspaceFacts). AreWorkspaces placed (take (i + 1) order) ss) (sym c.in_ok-push.ensures.items)
-    (subst (λ (ms : List Member). AreWorkspaces placed ms (c.loop-member.workspaces.items ++ c.in_ok-workspace_for.field-0 ∷ [])) (sym (take_more order i d c.loop-member-test.true))
-    (workspaces_pushed placed (take i order) m c.loop-member.workspaces.items c.in_ok-workspace_for.field-0 c.loop-member.invariant made.stands made.fitted))
+    (subst (λ (ms : List Member). AreWorkspaces placed ms
+    (c.loop-member.workspaces.items ++ c.in_ok-workspace_for.field-0 ∷ []))
+    (sym (take_more order i d c.loop-member-test.true))
+    (workspaces_pushed placed (take i order) m c.loop-member.workspaces.items c.in_ok-workspace_for.field-0
+    c.loop-member.invariant made.stands made.fitted))

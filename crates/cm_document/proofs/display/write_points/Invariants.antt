@@ -5,4 +5,6 @@ use Rattle.cm_document.proofs.display.write_points.Given as goal
 
 -- what is written are the points so far
 abbrev pub invariant-loop-point : goal.invariant-loop-point
-invariant-loop-point g l = IsPlainFormatter l.fn.f → HasWritten g.W.Write.write_str_gives l.fn.f (flat_map point_text (take l.point-index l.points)) l.f
+invariant-loop-point g l =
+    IsPlainFormatter l.fn.f
+    → HasWritten g.W.Write.write_str_gives l.fn.f (flat_map point_text (take l.point-index l.points)) l.f

@@ -6,4 +6,5 @@ pub returns-clause-valid : goal.returns-clause-valid
 returns-clause-valid c = document-IsValid
 
 pub returns-clause-places : goal.returns-clause-places
-returns-clause-places c = λ grammar bytes d accepted. IsValid-EachStandsOnce d.description (document-IsValid grammar bytes d accepted)
+returns-clause-places c =
+    λ grammar bytes d accepted. IsValid-EachStandsOnce d.description (document-IsValid grammar bytes d accepted)

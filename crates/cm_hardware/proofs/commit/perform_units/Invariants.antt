@@ -7,5 +7,6 @@ use Rattle.cm_hardware.proofs.commit.perform_units.Given as goal
 abbrev pub invariant-loop-unit : goal.invariant-loop-unit
 invariant-loop-unit l = record {
   places : l.at + all_commands (drop l.unit-index l.units) ≤ length l.board;
-  units : take l.unit-index l.units ++ all_performed l.board l.at (drop l.unit-index l.units) ≡ all_performed l.board l.first l.fn.units;
+  units : take l.unit-index l.units ++ all_performed l.board l.at (drop l.unit-index l.units)
+      ≡ all_performed l.board l.first l.fn.units;
 }

@@ -4,4 +4,5 @@ use Rattle.cm_hardware.proofs.hardware.fail_each.Given as goal
 
 -- what becomes of the components that are left is what becomes of all
 abbrev pub invariant-loop-unit : goal.invariant-loop-unit
-invariant-loop-unit l = take l.unit-index l.units ++ map after_failure (drop l.unit-index l.units) ≡ map after_failure l.fn.units
+invariant-loop-unit l =
+    take l.unit-index l.units ++ map after_failure (drop l.unit-index l.units) ≡ map after_failure l.fn.units

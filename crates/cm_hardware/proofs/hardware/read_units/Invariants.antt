@@ -9,7 +9,9 @@ invariant-loop-place l = record {
   places : l.at + all_states (drop l.place l.units) ≤ length l.board;
   few : length l.board < 2 ^ 32;
   units : take l.place l.units ++ map (read l.cycle) (drop l.place l.units) ≡ map (read l.cycle) l.fn.units;
-  failed : l.failed.items ++ failed_reads l.cycle l.place (drop l.place l.units) ≡ l.fn.failed.items ++ failed_reads l.cycle 0 l.fn.units;
+  failed : l.failed.items ++ failed_reads l.cycle l.place (drop l.place l.units)
+      ≡ l.fn.failed.items ++ failed_reads l.cycle 0 l.fn.units;
   room : count (fails_read l.cycle) (drop l.place l.units) ≤ l.failed.room;
-  left : l.fn.failed.room + count (fails_read l.cycle) (drop l.place l.units) ≤ l.failed.room + count (fails_read l.cycle) l.fn.units;
+  left : l.fn.failed.room + count (fails_read l.cycle) (drop l.place l.units) ≤ l.failed.room
+      + count (fails_read l.cycle) l.fn.units;
 }

@@ -6,4 +6,6 @@ pub returns-clause-free : goal.returns-clause-free
 returns-clause-free c = owned_is_available
 
 pub returns-clause-hardware : goal.returns-clause-hardware
-returns-clause-hardware c = λ s w valid together moved. moved_is_held s w (owned_is_available s valid together moved.lent.wired.interfaces) moved
+returns-clause-hardware c =
+    λ s w valid together moved. moved_is_held s w (owned_is_available s valid together moved.lent.wired.interfaces)
+    moved

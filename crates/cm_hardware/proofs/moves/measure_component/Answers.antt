@@ -10,7 +10,12 @@ count_states-at-requires c = omega (arith, states_before c.args.place c.args.uni
 
 pub measure_all-requires : goal.measure_all-requires
 measure_all-requires c =
-    omega (arith, c.count_states-at.ensures, states_upto c.args.place c.args.units.now c.index-units-place.result c.requires.place, c.requires.states)
+    omega (
+      arith,
+      c.count_states-at.ensures,
+      states_upto c.args.place c.args.units.now c.index-units-place.result c.requires.place,
+      c.requires.states,
+    )
 
 -- they hold what it measures
 pub returns-clause-board : goal.returns-clause-board

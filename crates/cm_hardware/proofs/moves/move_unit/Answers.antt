@@ -9,6 +9,8 @@ pub returns-clause-units : goal.returns-clause-units
 returns-clause-units c =
     let m : Mounted = c.index-units-place.result in
     let same = c.unit.view_is ∙ sym c.index-units-place.is in
-    set_moved c.args.place c.args.target c.args.units.now m (record { hardware = c.to_state.new.self; failed = c.unit.inside.failed }) c.requires c.index-units-place.is
+    set_moved c.args.place c.args.target c.args.units.now m
+    (record { hardware = c.to_state.new.self; failed = c.unit.inside.failed }) c.requires c.index-units-place.is
     (ap₂ (λ (h : Hardware) (b : Bool). record { hardware = h; failed = b })
-    (c.to_state.ensures.state ∙ ap (λ (m : Mounted). after_move m.hardware c.args.target) same) (ap (λ (m : Mounted). m.failed) same))
+    (c.to_state.ensures.state ∙ ap (λ (m : Mounted). after_move m.hardware c.args.target) same)
+    (ap (λ (m : Mounted). m.failed) same))

@@ -4,4 +4,5 @@ use Rattle.cm_hardware.proofs.start.mounted.Given as goal
 
 -- the components so far, and those that are left, are all
 abbrev pub invariant-loop-component : goal.invariant-loop-component
-invariant-loop-component l = l.units.items ++ map mounted (drop l.component-index l.components) ≡ map mounted l.components
+invariant-loop-component l =
+    l.units.items ++ map mounted (drop l.component-index l.components) ≡ map mounted l.components

@@ -5,4 +5,6 @@ use Rattle.cm_hardware.proofs.start.push_states.Given as goal
 
 -- the places so far, and those of the components that are left, are all
 abbrev pub invariant-loop-component : goal.invariant-loop-component
-invariant-loop-component l = l.places.items ++ places_from states_count l.component (drop l.component l.units) ≡ l.fn.places.items ++ places_from states_count 0 l.units
+invariant-loop-component l =
+    l.places.items ++ places_from states_count l.component (drop l.component l.units)
+    ≡ l.fn.places.items ++ places_from states_count 0 l.units

@@ -4,4 +4,6 @@ use Rattle.cm_places.proofs.listed.push_controllers.Given as goal
 
 -- those so far, and those of what is left, are all
 abbrev pub invariant-loop-place : goal.invariant-loop-place
-invariant-loop-place l = l.listed.items ++ listed_controllers l.place (drop l.place l.controllers) ≡ l.fn.listed.items ++ listed_controllers 0 l.controllers
+invariant-loop-place l =
+    l.listed.items ++ listed_controllers l.place (drop l.place l.controllers)
+    ≡ l.fn.listed.items ++ listed_controllers 0 l.controllers

@@ -5,4 +5,5 @@ use Rattle.cm_places.proofs.rows.command_places.Given as goal
 
 -- the places so far, and those of the names that are left, are all
 abbrev pub invariant-loop-name : goal.invariant-loop-name
-invariant-loop-name l = l.places ++ filter_map (command_in l.listed) (drop l.name-index l.names) ≡ filter_map (command_in l.listed) l.names
+invariant-loop-name l =
+    l.places ++ filter_map (command_in l.listed) (drop l.name-index l.names) ≡ filter_map (command_in l.listed) l.names

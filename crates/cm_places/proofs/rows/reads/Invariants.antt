@@ -5,4 +5,6 @@ use Rattle.cm_places.proofs.rows.reads.Given as goal
 
 -- the rows so far, and those of the controllers that are left, are all
 abbrev pub invariant-loop-controller : goal.invariant-loop-controller
-invariant-loop-controller l = l.rows ++ map (λ c. filter_map (state_in l.listed) c.reads) (drop l.controller-index l.controllers) ≡ map (λ c. filter_map (state_in l.listed) c.reads) l.controllers
+invariant-loop-controller l =
+    l.rows ++ map (λ c. filter_map (state_in l.listed) c.reads) (drop l.controller-index l.controllers)
+    ≡ map (λ c. filter_map (state_in l.listed) c.reads) l.controllers

@@ -9,9 +9,12 @@ use Rattle.cm_slots.proofs.lent.lend_each.Given as goal
 abbrev pub invariant-loop-index : goal.invariant-loop-index
 invariant-loop-index g l = record {
   can : CanLeave l.slots (drop l.index-index l.run) (map (option_map g.C.Controller.meaning) l.boxes);
-  left : without_boxes (drop l.index-index l.run) (map (option_map g.C.Controller.meaning) l.boxes) ≡ without_boxes l.run (map (option_map g.C.Controller.meaning) l.fn.boxes);
-  lent : map g.C.Controller.meaning l.lent.items ++ ctls_at l.slots (drop l.index-index l.run) ≡ map g.C.Controller.meaning l.fn.lent.items ++ ctls_at l.slots l.run;
-  running : AllByRecursion (IsKept Active) (map g.C.Controller.meaning l.fn.lent.items) → AllByRecursion (IsKept Active) (map g.C.Controller.meaning l.lent.items);
+  left : without_boxes (drop l.index-index l.run) (map (option_map g.C.Controller.meaning) l.boxes)
+      ≡ without_boxes l.run (map (option_map g.C.Controller.meaning) l.fn.boxes);
+  lent : map g.C.Controller.meaning l.lent.items ++ ctls_at l.slots (drop l.index-index l.run)
+      ≡ map g.C.Controller.meaning l.fn.lent.items ++ ctls_at l.slots l.run;
+  running : AllByRecursion (IsKept Active) (map g.C.Controller.meaning l.fn.lent.items)
+      → AllByRecursion (IsKept Active) (map g.C.Controller.meaning l.lent.items);
   places : length l.boxes ≡ length l.slots;
   room : vec_len l.lent + length (drop l.index-index l.run) ≤ vec_capacity l.lent;
   capacity : vec_capacity l.lent ≡ vec_capacity l.fn.lent;

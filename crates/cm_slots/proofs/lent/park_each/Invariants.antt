@@ -8,9 +8,12 @@ use Rattle.cm_slots.proofs.lent.park_each.Given as goal
 -- with those that are left all are back; each that is left runs
 abbrev pub invariant-loop-ctl : goal.invariant-loop-ctl
 invariant-loop-ctl g l = record {
-  slots : with_ctls (take (vec_len l.lent) l.run) (map g.C.Controller.meaning l.lent.items) l.slots ≡ with_ctls l.run (map g.C.Controller.meaning l.fn.lent.items) l.fn.slots;
-  boxes : with_boxes (take (vec_len l.lent) l.run) (map g.C.Controller.meaning l.lent.items) (map (option_map g.C.Controller.meaning) l.boxes)
-      ≡ with_boxes l.run (map g.C.Controller.meaning l.fn.lent.items) (map (option_map g.C.Controller.meaning) l.fn.boxes);
+  slots : with_ctls (take (vec_len l.lent) l.run) (map g.C.Controller.meaning l.lent.items) l.slots
+      ≡ with_ctls l.run (map g.C.Controller.meaning l.fn.lent.items) l.fn.slots;
+  boxes : with_boxes (take (vec_len l.lent) l.run) (map g.C.Controller.meaning l.lent.items)
+      (map (option_map g.C.Controller.meaning) l.boxes)
+      ≡ with_boxes l.run (map g.C.Controller.meaning l.fn.lent.items)
+      (map (option_map g.C.Controller.meaning) l.fn.boxes);
   running : AllByRecursion (IsKept Active) (map g.C.Controller.meaning l.lent.items);
   within : vec_len l.lent ≤ length l.run;
   count : length l.slots ≡ length l.fn.slots;

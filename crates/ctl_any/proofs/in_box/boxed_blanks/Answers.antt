@@ -7,5 +7,6 @@ use Rattle.ctl_any.proofs.in_box.boxed_blanks.Goals as goal
 -- they are as many in their boxes
 pub returns : goal.returns
 returns c =
-    AreBlanks-alike boxed.meaning ghosts.meaning c.in_ok-boxed.boxed.items c.in_ok-controllers.controllers.items (blanks_of_each c.args.each) c.in_ok-boxed.ensures
+    AreBlanks-alike boxed.meaning ghosts.meaning c.in_ok-boxed.boxed.items c.in_ok-controllers.controllers.items
+    (blanks_of_each c.args.each) c.in_ok-boxed.ensures
     c.in_ok-controllers.ensures

@@ -7,4 +7,5 @@ use Rattle.ctl_any.proofs.in_box.in_boxes.Given as goal
 -- those in boxes, and those that are left, are all
 abbrev pub invariant-loop-controller : goal.invariant-loop-controller
 invariant-loop-controller l =
-    map boxed.meaning l.boxed.items ++ map ghosts.meaning (into_iter_items l.controller-iterator) ≡ map ghosts.meaning l.fn.controllers.items
+    map boxed.meaning l.boxed.items ++ map ghosts.meaning (into_iter_items l.controller-iterator)
+    ≡ map ghosts.meaning l.fn.controllers.items

@@ -15,13 +15,16 @@ loop-row-init c = λ b are. (b, are, refl)
 pub loop-row-preserved : goal.loop-row-preserved
 loop-row-preserved c = λ b are.
     let before = c.loop-row.invariant b are in
-    next_kind (AreBlanks ghosts.meaning c.add_some.new.blanks.items) (λ row. row.1) c.args.counts.now before.0 (with_some_of c.args.counts.now b (map (λ row. row.1) c.args.kinds.now)) c.args.kinds.now
-    c.loop-row.row-index (record { ref_ptr = (0, 0); now = [] }, Forward) c.of.result c.loop-row-test.true c.of.ensures (c.in_ok-add_some.ensures before.0 before.1) before.2
+    next_kind (AreBlanks ghosts.meaning c.add_some.new.blanks.items) (λ row. row.1) c.args.counts.now before.0
+    (with_some_of c.args.counts.now b (map (λ row. row.1) c.args.kinds.now)) c.args.kinds.now
+    c.loop-row.row-index (record { ref_ptr = (0, 0); now = [] }, Forward) c.of.result c.loop-row-test.true c.of.ensures
+    (c.in_ok-add_some.ensures before.0 before.1) before.2
 
 pub returns : goal.returns
 returns c = λ b are.
     let before = c.loop-row.invariant b are in
     let none = drop_all c.loop-row.row-index c.args.kinds.now (omega (arith, c.loop-row-test.false)) in
-    let all = sym (no_kind_left c.args.counts.now before.0 (blanks_counted ghosts.meaning c.loop-row.blanks.items before.0 before.1))
+    let all = sym
+    (no_kind_left c.args.counts.now before.0 (blanks_counted ghosts.meaning c.loop-row.blanks.items before.0 before.1))
     ∙ sym (ap (λ rows. with_some_of c.args.counts.now before.0 (map (λ row. row.1) rows)) none) ∙ before.2 in
     subst (AreBlanks ghosts.meaning c.loop-row.blanks.items) all before.1

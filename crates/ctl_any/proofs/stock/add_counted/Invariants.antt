@@ -9,4 +9,5 @@ use Rattle.ctl_any.proofs.stock.add_counted.Given as goal
 abbrev pub invariant-loop-row : goal.invariant-loop-row
 invariant-loop-row l = (b : Blanks) → AreBlanks ghosts.meaning l.fn.blanks.items b
     → (so_far : Blanks) × AreBlanks ghosts.meaning l.blanks.items so_far
-    × (with_some_of l.counts so_far (map (λ row. row.1) (drop l.row-index l.kinds)) ≡ with_some_of l.counts b (map (λ row. row.1) l.kinds))
+    × (with_some_of l.counts so_far (map (λ row. row.1) (drop l.row-index l.kinds))
+    ≡ with_some_of l.counts b (map (λ row. row.1) l.kinds))

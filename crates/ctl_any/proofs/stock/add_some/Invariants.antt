@@ -8,4 +8,5 @@ use Rattle.ctl_any.proofs.stock.add_some.Given as goal
 -- so many more so far
 abbrev pub invariant-loop-number : goal.invariant-loop-number
 invariant-loop-number l =
-    (b : Blanks) → AreBlanks ghosts.meaning l.fn.blanks.items b → AreBlanks ghosts.meaning l.blanks.items (with_count b l.kind (blanks_of b l.kind + l._number))
+    (b : Blanks) → AreBlanks ghosts.meaning l.fn.blanks.items b
+    → AreBlanks ghosts.meaning l.blanks.items (with_count b l.kind (blanks_of b l.kind + l._number))

@@ -10,4 +10,5 @@ use Rattle.ctl_any.proofs.stock.counted.Goals as goal
 pub returns : goal.returns
 returns c =
     let counts = c.args.counts.now in
-    subst (λ (x : Blanks). AreBlanks ghosts.meaning c.add_counted.new.blanks.items x) (all_counted counts ∙ sym c.are_counted.ensures) (c.in_ok-add_counted.ensures no_blanks (search rules))
+    subst (λ (x : Blanks). AreBlanks ghosts.meaning c.add_counted.new.blanks.items x)
+    (all_counted counts ∙ sym c.are_counted.ensures) (c.in_ok-add_counted.ensures no_blanks (search rules))

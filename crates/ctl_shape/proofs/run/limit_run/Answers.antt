@@ -9,7 +9,8 @@ use Rattle.ctl_shape.proofs.run.limit_run.Goals as goal
 
 pub loop-value-init : goal.loop-value-init
 loop-value-init c = record {
-  so_far = λ more run. run_begins c.of-limiter.result c.args.start c.brought-at.result c.args.wanted.now c.in_ok-outs.outs.items more c.brought-at.ensures.value c.in_ok-outs.ensures.items run;
+  so_far = λ more run. run_begins c.of-limiter.result c.args.start c.brought-at.result c.args.wanted.now
+      c.in_ok-outs.outs.items more c.brought-at.ensures.value c.in_ok-outs.ensures.items run;
   above = c.brought-at.ensures.above;
   below = c.brought-at.ensures.below;
 }
@@ -23,15 +24,22 @@ loop-value-preserved c =
     let last : ℤ = at -ℤ c.loop-value.before in
     let next : ℤ = c.advance-next.result in
     let value : Value = c.value-item.result in
-    let left : drop i wanted ≡ value ∷ drop (i + 1) wanted = drop_more wanted i c.value-item.result c.loop-value-test.true ∙ ap (λ w. w ∷ drop (i + 1) wanted) (sym c.value-item.is) in
-    let so_far : (more : List ℤ) → IsRun limiter at last (value ∷ drop (i + 1) wanted) more → IsRunFrom limiter c.args.start wanted (c.loop-value.outs.items ++ more) =
-    λ more run. c.loop-value.invariant.so_far more (subst (λ (ws : List Value). IsRun limiter at last ws more) (sym left) run) in
-    let stepped : to_z w64 (of_z w64 c.difference.result) ≡ last = omega (arith, ints, c.difference.ensures.small, c.difference.ensures.value) in
-    let step : IsNewStep limiter at last (wanted_step limiter at value) (next -ℤ at) = rw stepped at c.advance-next.ensures.step in
+    let left : drop i wanted ≡ value ∷ drop (i + 1) wanted =
+    drop_more wanted i c.value-item.result c.loop-value-test.true
+    ∙ ap (λ w. w ∷ drop (i + 1) wanted) (sym c.value-item.is) in
+    let so_far : (more : List ℤ) → IsRun limiter at last (value ∷ drop (i + 1) wanted) more
+    → IsRunFrom limiter c.args.start wanted (c.loop-value.outs.items ++ more) =
+    λ more run. c.loop-value.invariant.so_far more
+    (subst (λ (ws : List Value). IsRun limiter at last ws more) (sym left) run) in
+    let stepped : to_z w64 (of_z w64 c.difference.result) ≡ last =
+    omega (arith, ints, c.difference.ensures.small, c.difference.ensures.value) in
+    let step : IsNewStep limiter at last (wanted_step limiter at value) (next -ℤ at) =
+    rw stepped at c.advance-next.ensures.step in
     record {
       so_far = λ more run.
           subst (λ (xs : List ℤ). IsRunFrom limiter c.args.start wanted (xs ++ more)) (sym c.in_ok-push.ensures.items)
-          (run_more limiter c.args.start at last wanted (drop (i + 1) wanted) c.loop-value.outs.items value next so_far step more run);
+          (run_more limiter c.args.start at last wanted (drop (i + 1) wanted) c.loop-value.outs.items value next so_far
+          step more run);
       above = c.advance-next.ensures.above;
       below = c.advance-next.ensures.below;
     }
@@ -45,5 +53,7 @@ returns c =
     let last : ℤ = at -ℤ c.loop-value.before in
     let outs = c.loop-value.outs.items in
     let none = drop_all i wanted (omega (arith, c.loop-value-test.false)) in
-    run_done (reach_in c.args.limits.now) limiter c.args.start at last wanted outs c.of-limiter.ensures.value c.of-limiter.ensures.cut c.requires.ends
-    (λ more run. c.loop-value.invariant.so_far more (subst (λ (ws : List Value). IsRun limiter at last ws more) (sym none) run))
+    run_done (reach_in c.args.limits.now) limiter c.args.start at last wanted outs c.of-limiter.ensures.value
+    c.of-limiter.ensures.cut c.requires.ends
+    (λ more run. c.loop-value.invariant.so_far more
+    (subst (λ (ws : List Value). IsRun limiter at last ws more) (sym none) run))

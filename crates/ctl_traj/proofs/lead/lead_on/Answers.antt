@@ -8,8 +8,10 @@ loop-index-init c =
     let points = c.args.points.now in
     let come = c.requires.passed in
     record {
-      way = rw (c.begun_at-since.ensures, c.begun_from-begin.ensures) (way_behind c.args.t 0 c.args.from.now points c.args.come come.within come.each);
-      whole = ap length c.begun_from-begin.ensures ∙ begin_long (length c.args.outs.now) c.args.from.now points c.args.come c.requires.whole c.requires.fit;
+      way = rw (c.begun_at-since.ensures, c.begun_from-begin.ensures)
+          (way_behind c.args.t 0 c.args.from.now points c.args.come come.within come.each);
+      whole = ap length c.begun_from-begin.ensures
+          ∙ begin_long (length c.args.outs.now) c.args.from.now points c.args.come c.requires.whole c.requires.fit;
       fit = rest_fit (length c.args.outs.now) points c.args.come c.requires.fit;
       begun = rw c.begun_at-since.ensures (since_come c.args.t 0 points c.args.come (omega arith) come.each);
       passed = come;

@@ -31,7 +31,8 @@ loop-i-preserved c =
     let read : get_or values i (Num v) ≡ Num v =
     get_or-map Num lines i v (Num v) in_lines ∙ ap Num (get_or-map f (zip from to) i (x, y) v in_zip ∙ ap f ends) in
     let long : length values ≡ length lines = length-map lines Num in
-    let written : set (paste c.args.outs.now 0 values i) (0 + i) (get_or values i (Num v)) ≡ paste c.args.outs.now 0 values (i + 1) =
+    let written : set (paste c.args.outs.now 0 values i) (0 + i) (get_or values i (Num v))
+    ≡ paste c.args.outs.now 0 values (i + 1) =
     paste_more c.args.outs.now 0 values i (Num v) (omega (arith, c.loop-i-test.true)) (omega (arith, in_lines, long)) in
     let from_0 : i ≡ 0 + i = omega arith in
     ap (λ (z : ℤ). set c.loop-i.outs i (Num z)) c.on_segment.ensures

@@ -7,7 +7,8 @@ use Rattle.ctl_traj.proofs.SegmentLemmas.{share_no_more}
 use Rattle.ctl_traj.proofs.segment.share.Goals as goal
 
 -- what the 128 bits hold is the share, which is no more than the way
-wide_is_share : (c : goal.After-wide_share) → c.wide_share.result ≡ floor_div (c.args.way *ℤ pos c.args.gone) (pos c.args.time)
+wide_is_share : (c : goal.After-wide_share)
+    → c.wide_share.result ≡ floor_div (c.args.way *ℤ pos c.args.gone) (pos c.args.time)
 wide_is_share c =
     let way : to_z w64 (of_z w64 c.args.way) ≡ c.args.way = omega (arith, ints) in
     rw way at c.wide_share.ensures
@@ -15,7 +16,8 @@ wide_is_share c =
 wide_no_more : (c : goal.After-wide_share) → nat_abs c.wide_share.result ≤ nat_abs c.args.way
 wide_no_more c = rw (wide_is_share c) (share_no_more c.args.way c.args.gone c.args.time c.requires.part)
 
-back_again : (c : goal.After-wide_share) → to_z w64 (of_z w64 (to_z w128 (of_z w128 c.wide_share.result))) ≡ c.wide_share.result
+back_again : (c : goal.After-wide_share)
+    → to_z w64 (of_z w64 (to_z w128 (of_z w128 c.wide_share.result))) ≡ c.wide_share.result
 back_again c = omega (arith, ints, wide_no_more c, c.requires)
 
 pub overflow_cast-result : goal.overflow_cast-result

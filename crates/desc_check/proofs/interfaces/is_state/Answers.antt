@@ -10,5 +10,7 @@ use Rattle.desc_check.proofs.interfaces.is_state.Goals as goal
 
 pub returns : goal.returns
 returns c =
-    any_from_yields_List (λ x. is_among c.args.interface.now (flat_map states_of_joint x.joints)) _ _ _ c.any.ensures.ran (YieldsList-from_slice c.args.components.now cc) (λ x b q k. search (rules, tests))
-    ∙ sym (any_flat_map (same_interface c.args.interface.now) (λ x. flat_map states_of_joint x.joints) c.args.components.now)
+    any_from_yields_List (λ x. is_among c.args.interface.now (flat_map states_of_joint x.joints)) _ _ _
+    c.any.ensures.ran (YieldsList-from_slice c.args.components.now cc) (λ x b q k. search (rules, tests))
+    ∙ sym (any_flat_map (same_interface c.args.interface.now) (λ x. flat_map states_of_joint x.joints)
+    c.args.components.now)

@@ -9,5 +9,6 @@ use Rattle.desc_check.proofs.interfaces.is_state_in.Goals as goal
 
 pub returns : goal.returns
 returns c =
-    any_from_yields_List (λ x. is_among c.args.interface.now (states_of_joint x)) _ _ _ c.any.ensures.ran (YieldsList-from_slice c.args.joints.now cc) (λ x b q k. search (rules, tests))
+    any_from_yields_List (λ x. is_among c.args.interface.now (states_of_joint x)) _ _ _ c.any.ensures.ran
+    (YieldsList-from_slice c.args.joints.now cc) (λ x b q k. search (rules, tests))
     ∙ sym (any_flat_map (same_interface c.args.interface.now) (λ x. states_of_joint x) c.args.joints.now)

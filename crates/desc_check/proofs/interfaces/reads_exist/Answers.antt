@@ -5,5 +5,6 @@ use Rattle.desc_check.proofs.interfaces.reads_exist.Goals as goal
 
 pub returns-in_ok-no_interface-in-Some : goal.returns-in_ok-no_interface-in-Some
 returns-in_ok-no_interface-in-Some c =
-    inr (all_among_missing (states_of c.args.components.now) c.args.controller.now.name c.args.controller.now.reads c.in-Some.missing.now (rw (c.in-Some.is, c.reads.ensures) at c.missing_read.ensures)
+    inr (all_among_missing (states_of c.args.components.now) c.args.controller.now.name c.args.controller.now.reads
+    c.in-Some.missing.now (rw (c.in-Some.is, c.reads.ensures) at c.missing_read.ensures)
     ∙ ap (λ fault. Err fault) (sym c.in_ok-no_interface-in-Some.ensures))

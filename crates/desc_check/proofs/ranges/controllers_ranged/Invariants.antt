@@ -5,4 +5,6 @@ use Rattle.desc_check.proofs.ranges.controllers_ranged.Given as goal
 
 -- the controllers that are left have the first fault of all
 abbrev pub invariant-loop-index : goal.invariant-loop-index
-invariant-loop-index l = each_ranged controller_ranged (codes "controller") l.index (drop l.index l.controllers) ≡ each_ranged controller_ranged (codes "controller") 0 l.controllers
+invariant-loop-index l =
+    each_ranged controller_ranged (codes "controller") l.index (drop l.index l.controllers)
+    ≡ each_ranged controller_ranged (codes "controller") 0 l.controllers

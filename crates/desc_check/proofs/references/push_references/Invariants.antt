@@ -4,4 +4,5 @@ use Rattle.desc_check.proofs.references.push_references.Given as goal
 
 -- the references before, and those for the interfaces so far
 abbrev pub invariant-loop-interface : goal.invariant-loop-interface
-invariant-loop-interface l = l.references ≡ l.fn.references ++ map (reference_for l.controller.name) (take l.interface-index l.interfaces)
+invariant-loop-interface l =
+    l.references ≡ l.fn.references ++ map (reference_for l.controller.name) (take l.interface-index l.interfaces)

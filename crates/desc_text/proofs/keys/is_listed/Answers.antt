@@ -7,5 +7,6 @@ use Rattle.desc_text.proofs.keys.is_listed.Goals as goal
 
 pub returns : goal.returns
 returns c =
-    any_from_yields_List (λ k. same_key c.args.key.now k.now) _ _ _ c.any.ensures.ran (YieldsList-from_slice c.args.listed.now cc) (λ x b q k. search (rules, tests))
+    any_from_yields_List (λ k. same_key c.args.key.now k.now) _ _ _ c.any.ensures.ran
+    (YieldsList-from_slice c.args.listed.now cc) (λ x b q k. search (rules, tests))
     ∙ sym (any_map (same_key c.args.key.now) (λ k. k.now) c.args.listed.now)

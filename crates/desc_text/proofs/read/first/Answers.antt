@@ -5,10 +5,12 @@ use Rattle.desc_text.proofs.read.first.Goals as goal
 
 pub returns-in_err-controllers : goal.returns-in_err-controllers
 returns-in_err-controllers c =
-    rw (first_read (table_view c.args.table.now) c.in_ok-version.version c.in_ok-update_rate.update_rate c.in_ok-cycles.cycles c.in_ok-components.components c.as_slice.result.now
+    rw (first_read (table_view c.args.table.now) c.in_ok-version.version c.in_ok-update_rate.update_rate
+    c.in_ok-cycles.cycles c.in_ok-components.components c.as_slice.result.now
     (search rules) (search rules) (search rules) (search rules) (search rules) (search rules)) (search rules)
 
 pub returns : goal.returns
 returns c =
-    rw (first_read (table_view c.args.table.now) c.in_ok-version.version c.in_ok-update_rate.update_rate c.in_ok-cycles.cycles c.in_ok-components.components c.as_slice.result.now
+    rw (first_read (table_view c.args.table.now) c.in_ok-version.version c.in_ok-update_rate.update_rate
+    c.in_ok-cycles.cycles c.in_ok-components.components c.as_slice.result.now
     (search rules) (search rules) (search rules) (search rules) (search rules) (search rules)) (search rules)

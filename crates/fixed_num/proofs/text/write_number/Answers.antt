@@ -10,5 +10,6 @@ pub unreachable-requires : goal.unreachable-requires
 unreachable-requires g c =
     let range : IsInRange c.args.number = search rules in
     let small : nat_abs c.args.number ≤ 1000000000000000 = omega (arith, ints) in
-    let bytes : IsUtf8 c.bytes.result.now = rw (c.bytes.ensures.bytes, c.put_number.ensures) (spelled_IsUtf8 c.args.number small) in
+    let bytes : IsUtf8 c.bytes.result.now =
+    rw (c.bytes.ensures.bytes, c.put_number.ensures) (spelled_IsUtf8 c.args.number small) in
     c.in-Err.ensures.cases.0 bytes

@@ -5,5 +5,6 @@ use Rattle.hw_component.proofs.claims.claim_joints.Goals as goal
 
 pub returns : goal.returns
 returns c =
-    fill_by_all (claim_on c.args.commands.now c.args.claims.now) c.loop-joint.claimed (length c.args.claimed.now) None (omega arith)
+    fill_by_all (claim_on c.args.commands.now c.args.claims.now) c.loop-joint.claimed (length c.args.claimed.now) None
+    (omega arith)
     (λ k below. c.loop-joint.invariant k (omega (arith, below)))

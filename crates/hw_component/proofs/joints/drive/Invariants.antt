@@ -6,4 +6,5 @@ use Rattle.hw_component.proofs.joints.drive.Given as goal
 -- the bodies so far have made their step, and the others not
 abbrev pub invariant-loop-joint : goal.invariant-loop-joint
 invariant-loop-joint l =
-    l.bodies ≡ map (λ p. driven l.commands l.values l.dt_us p.0 p.1) (take l.joint (zip l.claimed l.fn.bodies)) ++ drop l.joint l.fn.bodies
+    l.bodies ≡ map (λ p. driven l.commands l.values l.dt_us p.0 p.1) (take l.joint (zip l.claimed l.fn.bodies))
+    ++ drop l.joint l.fn.bodies

@@ -7,5 +7,6 @@ use Rattle.hw_component.proofs.joints.measure.Goals as goal
 pub loop-place-preserved : goal.loop-place-preserved
 loop-place-preserved c =
     rw c.measured_at.ensures
-    (written_more (measured_at (states_in c.args.bodies.now)) c.args.interfaces.now c.loop-place.places c.args.places.now c.loop-place.place _
+    (written_more (measured_at (states_in c.args.bodies.now)) c.args.interfaces.now c.loop-place.places
+    c.args.places.now c.loop-place.place _
     c.loop-place-test.true c.requires c.loop-place.invariant (get_or_default _ _ _ _ c.loop-place-test.true))

@@ -5,4 +5,5 @@ use Rattle.hw_component.proofs.joints.measure.Given as goal
 
 -- the places so far hold what is measured, and the others what they held
 abbrev pub invariant-loop-place : goal.invariant-loop-place
-invariant-loop-place l = l.places ≡ map (measured_at (states_in l.bodies)) (take l.place l.interfaces) ++ drop l.place l.fn.places
+invariant-loop-place l =
+    l.places ≡ map (measured_at (states_in l.bodies)) (take l.place l.interfaces) ++ drop l.place l.fn.places

@@ -4,6 +4,8 @@ use Rattle.hw_component.proofs.make.state_interfaces.Goals as goal
 
 pub loop-number-preserved : goal.loop-number-preserved
 loop-number-preserved c =
-    interfaces_more (λ j. j.states) c.args.joints.now c.loop-number.number c.index-joints-number.result c.loop-number.interfaces.items
-    c.push_interfaces.new.interfaces.items (interfaces_from (λ j. j.states) 0 c.args.joints.now) c.loop-number-test.true c.index-joints-number.is
+    interfaces_more (λ j. j.states) c.args.joints.now c.loop-number.number c.index-joints-number.result
+    c.loop-number.interfaces.items
+    c.push_interfaces.new.interfaces.items (interfaces_from (λ j. j.states) 0 c.args.joints.now) c.loop-number-test.true
+    c.index-joints-number.is
     (rw c.as_slice.ensures at c.in_ok-push_interfaces.ensures) c.loop-number.invariant

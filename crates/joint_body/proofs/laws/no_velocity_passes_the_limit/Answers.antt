@@ -7,4 +7,5 @@ pub returns : goal.returns
 returns c =
     let body = c.args.body.now in
     let fits : IsInRange body.state.x = search rules in
-    velocity_is_limited body.plant c.args.mode c.args.command c.args.dt_us body.state c.state.ensures.sound c.requires fits
+    velocity_is_limited body.plant c.args.mode c.args.command c.args.dt_us body.state c.state.ensures.sound c.requires
+    fits

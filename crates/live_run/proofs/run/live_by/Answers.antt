@@ -12,8 +12,11 @@ returns-clause-ports g c =
     let before = c.args.sessions.items in
     let after = c.run_all.new.sessions in
     let ran : EachHasRun g.P.Port.footing g.P.Port.tells before after =
-    subst (λ first. EachHasRun g.P.Port.footing g.P.Port.tells first after) c.as_mut_slice.ensures.value c.run_all.ensures.sessions in
-    let long : length after ≡ c.args.sessions.len = omega (arith, c.run_all.auto.sessions, c.as_mut_slice.ensures.len) in
-    ports_have_followed g.P.Port.footing g.P.Port.tells before after _ _ c.ports_of.result.items (with_items_is c.args.sessions after long)
+    subst (λ first. EachHasRun g.P.Port.footing g.P.Port.tells first after) c.as_mut_slice.ensures.value
+    c.run_all.ensures.sessions in
+    let long : length after ≡ c.args.sessions.len =
+    omega (arith, c.run_all.auto.sessions, c.as_mut_slice.ensures.len) in
+    ports_have_followed g.P.Port.footing g.P.Port.tells before after _ _ c.ports_of.result.items
+    (with_items_is c.args.sessions after long)
     c.in_ok-ports.ensures.items c.ports_of.ensures ran
     (subst (All (λ s. is_none (next_of s.0) ≡ true)) c.as_slice.ensures.value (c.have_all_ended.ensures cc))

@@ -6,4 +6,9 @@ use Rattle.loan_board.proofs.make.push_components.Given as goal
 
 -- the loans so far, and those of what is left, are all
 abbrev pub invariant-loop-component : goal.invariant-loop-component
-invariant-loop-component l = l.loans.items ++ map (λ _. idle l.is_command) (flat_map (λ c. flat_map (kinds_of l.is_command) c.joints) (drop l.component-index l.components)) ≡ l.fn.loans.items ++ map (λ _. idle l.is_command) (flat_map (λ c. flat_map (kinds_of l.is_command) c.joints) l.components)
+invariant-loop-component l =
+    l.loans.items
+    ++ map (λ _. idle l.is_command)
+    (flat_map (λ c. flat_map (kinds_of l.is_command) c.joints) (drop l.component-index l.components))
+    ≡ l.fn.loans.items
+    ++ map (λ _. idle l.is_command) (flat_map (λ c. flat_map (kinds_of l.is_command) c.joints) l.components)

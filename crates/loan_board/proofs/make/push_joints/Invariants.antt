@@ -6,4 +6,6 @@ use Rattle.loan_board.proofs.make.push_joints.Given as goal
 
 -- the loans so far, and those of what is left, are all
 abbrev pub invariant-loop-joint : goal.invariant-loop-joint
-invariant-loop-joint l = l.loans.items ++ map (λ _. idle l.is_command) (flat_map (kinds_of l.is_command) (drop l.joint-index l.joints)) ≡ l.fn.loans.items ++ map (λ _. idle l.is_command) (flat_map (kinds_of l.is_command) l.joints)
+invariant-loop-joint l =
+    l.loans.items ++ map (λ _. idle l.is_command) (flat_map (kinds_of l.is_command) (drop l.joint-index l.joints))
+    ≡ l.fn.loans.items ++ map (λ _. idle l.is_command) (flat_map (kinds_of l.is_command) l.joints)

@@ -6,4 +6,7 @@ use Rattle.loan_board.proofs.make.push_references.Given as goal
 
 -- the loans so far, and those of what is left, are all
 abbrev pub invariant-loop-controller : goal.invariant-loop-controller
-invariant-loop-controller l = l.loans.items ++ map (λ _. idle true) (flat_map (λ c. exported_for c.params c) (drop l.controller-index l.controllers)) ≡ l.fn.loans.items ++ map (λ _. idle true) (flat_map (λ c. exported_for c.params c) l.controllers)
+invariant-loop-controller l =
+    l.loans.items
+    ++ map (λ _. idle true) (flat_map (λ c. exported_for c.params c) (drop l.controller-index l.controllers))
+    ≡ l.fn.loans.items ++ map (λ _. idle true) (flat_map (λ c. exported_for c.params c) l.controllers)

@@ -10,7 +10,9 @@ returns g c =
     let after = c.for_each_mut.new.s in
     record {
       cells = all_mapped cell_run before after c.for_each_mut.auto.s
-          (λ i d within. let it = (c.for_each_mut.ensures i d within).1 in sym it.left ∙ it.call.cell ∙ ap cell_run it.argument_is);
+          (λ i d within. let it = (c.for_each_mut.ensures i d within).1 in
+          sym it.left ∙ it.call.cell ∙ ap cell_run it.argument_is);
       posts = told_alike post_of before after c.for_each_mut.auto.s
-          (λ i d within. let it = (c.for_each_mut.ensures i d within).1 in ap post_of (sym it.left) ∙ it.call.post ∙ ap post_of it.argument_is);
+          (λ i d within. let it = (c.for_each_mut.ensures i d within).1 in
+          ap post_of (sym it.left) ∙ it.call.post ∙ ap post_of it.argument_is);
     }

@@ -7,23 +7,31 @@ layers-depths-requires g c = is_started c.args.flight.now c.start.new.self c.sta
 
 pub loop-depth-init : goal.loop-depth-init
 loop-depth-init g c = record {
-  past = past_none c.args.flight.now c.start.new.self c.layers-depths.result c.start.ensures.starts c.start.ensures.under_way c.layers-depths.ensures;
+  past = past_none c.args.flight.now c.start.new.self c.layers-depths.result c.start.ensures.starts
+      c.start.ensures.under_way c.layers-depths.ensures;
 }
 
 pub update_by-requires : goal.update_by-requires
 update_by-requires g c = (
   c.type_bounds.send-C,
-  (c.type_bounds.sync-R, can_gather c.args.flight.now c.loop-depth.depth c.layers-depths.result c.loop-depth.flight c.loop-depth.invariant.past (omega (arith, c.loop-depth-test.true))),
+  (
+    c.type_bounds.sync-R,
+    can_gather c.args.flight.now c.loop-depth.depth c.layers-depths.result c.loop-depth.flight
+        c.loop-depth.invariant.past (omega (arith, c.loop-depth-test.true)),
+  ),
 )
 
 pub loop-depth-preserved : goal.loop-depth-preserved
 loop-depth-preserved g c = record {
-  past = past_one c.args.flight.now c.loop-depth.depth c.layers-depths.result c.loop-depth.flight c.loop-depth.invariant.past c.update_by.new.flight c.update_by.ensures;
+  past = past_one c.args.flight.now c.loop-depth.depth c.layers-depths.result c.loop-depth.flight
+      c.loop-depth.invariant.past c.update_by.new.flight c.update_by.ensures;
 }
 
 -- all depths gave out
 pub complete-requires : goal.complete-requires
-complete-requires g c = can_complete c.args.flight.now c.loop-depth.depth c.layers-depths.result c.loop-depth.flight c.loop-depth.invariant.past (omega arith)
+complete-requires g c =
+    can_complete c.args.flight.now c.loop-depth.depth c.layers-depths.result c.loop-depth.flight
+    c.loop-depth.invariant.past (omega arith)
 
 pub returns-clause-cycle : goal.returns-clause-cycle
 returns-clause-cycle g c = λ s aloft. c.complete.ensures.cycle s (c.loop-depth.invariant.past.under_way s aloft)

@@ -6,7 +6,8 @@ use Rattle.request_plan.proofs.components.component_place.Goals as goal
 
 pub overflow_cast-result : goal.overflow_cast-result
 overflow_cast-result c =
-    let few : length c.args.checked.now.components < 2 ^ 32 = few_components c.args.checked.now c.description.ensures.valid in
+    let few : length c.args.checked.now.components < 2 ^ 32 =
+    few_components c.args.checked.now c.description.ensures.valid in
     let long : length c.as_slice.result.now ≡ length c.args.checked.now.components =
     ap length (c.as_slice.ensures ∙ ap (λ (d : Description). d.components) c.description.ensures.same) in
     omega (arith, ints, few, long, c.in_ok-place.ensures.within)

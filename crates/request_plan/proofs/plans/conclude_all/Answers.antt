@@ -8,7 +8,8 @@ pub loop-request-init : goal.loop-request-init
 loop-request-init c = record {
   stands = c.requires.situation;
   count = ap length c.in_ok-conclusions.ensures.items;
-  way = λ s seen. begun s c.args.waiting.now c.in_ok-conclusions.conclusions.items c.args.checked.now c.args.situation.now c.in_ok-conclusions.ensures.items seen;
+  way = λ s seen. begun s c.args.waiting.now c.in_ok-conclusions.conclusions.items c.args.checked.now
+      c.args.situation.now c.in_ok-conclusions.ensures.items seen;
 }
 
 pub loop-request-preserved : goal.loop-request-preserved
@@ -17,13 +18,19 @@ loop-request-preserved c =
     let d = c.args.checked.now in
     let waiting = c.args.waiting.now in
     record {
-      stands = follows d c.loop-request.situation c.follow.new.self c.in_ok-conclusion.conclusion.act c.loop-request.invariant.stands c.follow.ensures.loaded c.follow.ensures.lives;
-      count = ap length c.in_ok-push.ensures.items ∙ length-append c.loop-request.conclusions.items (c.in_ok-conclusion.conclusion ∷ []) ∙ ap (λ n. n + 1) c.loop-request.invariant.count;
+      stands = follows d c.loop-request.situation c.follow.new.self c.in_ok-conclusion.conclusion.act
+          c.loop-request.invariant.stands c.follow.ensures.loaded c.follow.ensures.lives;
+      count = ap length c.in_ok-push.ensures.items
+          ∙ length-append c.loop-request.conclusions.items (c.in_ok-conclusion.conclusion ∷ [])
+          ∙ ap (λ n. n + 1) c.loop-request.invariant.count;
       way = λ s seen.
-          one_more s waiting c.loop-request.conclusions.items c.push.new.self.items c.request-item.result (drop (i + 1) waiting) d c.loop-request.situation c.follow.new.self c.in_ok-conclusion.conclusion
+          one_more s waiting c.loop-request.conclusions.items c.push.new.self.items c.request-item.result
+          (drop (i + 1) waiting) d c.loop-request.situation c.follow.new.self c.in_ok-conclusion.conclusion
           (subst (λ rest. IsOnTheWay s waiting c.loop-request.conclusions.items rest d c.loop-request.situation)
-          (drop_more waiting i c.request-item.result c.loop-request-test.true ∙ ap (λ r. r ∷ drop (i + 1) waiting) (sym c.request-item.is)) (c.loop-request.invariant.way s seen))
-          c.in_ok-conclusion.ensures.concluded c.follow.ensures.loaded c.follow.ensures.lives c.in_ok-push.ensures.items;
+          (drop_more waiting i c.request-item.result c.loop-request-test.true
+          ∙ ap (λ r. r ∷ drop (i + 1) waiting) (sym c.request-item.is)) (c.loop-request.invariant.way s seen))
+          c.in_ok-conclusion.ensures.concluded c.follow.ensures.loaded c.follow.ensures.lives
+          c.in_ok-push.ensures.items;
     }
 
 pub returns-clause-concluded : goal.returns-clause-concluded
@@ -32,5 +39,6 @@ returns-clause-concluded c = λ s seen.
     let waiting = c.args.waiting.now in
     let list = c.loop-request.conclusions.items in
     ended s waiting list c.args.checked.now c.loop-request.situation
-    (subst (λ rest. IsOnTheWay s waiting list rest c.args.checked.now c.loop-request.situation) (drop_all i waiting (omega (arith, c.loop-request-test.false)))
+    (subst (λ rest. IsOnTheWay s waiting list rest c.args.checked.now c.loop-request.situation)
+    (drop_all i waiting (omega (arith, c.loop-request-test.false)))
     (c.loop-request.invariant.way s seen))

@@ -9,5 +9,6 @@ abbrev pub invariant-loop-request : goal.invariant-loop-request
 invariant-loop-request l = record {
   stands : IsSituation l.checked l.situation;
   count : length l.conclusions.items ≡ l.request-index;
-  way : (s : State) → IsSeenOf s l.checked l.fn.situation → IsOnTheWay s l.waiting l.conclusions.items (drop l.request-index l.waiting) l.checked l.situation;
+  way : (s : State) → IsSeenOf s l.checked l.fn.situation
+      → IsOnTheWay s l.waiting l.conclusions.items (drop l.request-index l.waiting) l.checked l.situation;
 }

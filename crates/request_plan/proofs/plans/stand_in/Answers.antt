@@ -15,14 +15,20 @@ as_far_as on off = record { on = on; off = off; strict = false }
 pub returns-then-is_empty-clause-stood : goal.returns-then-is_empty-clause-stood
 returns-then-is_empty-clause-stood c = λ s seen.
     nobody_stands s c.args.names c.args.checked.now c.args.situation.now
-    (ap (λ (names : List (List ℕ)). length names == 0) (sym c.as_slice.ensures) ∙ sym c.is_empty.ensures ∙ c.if-is_empty.true) seen
+    (ap (λ (names : List (List ℕ)). length names == 0) (sym c.as_slice.ensures) ∙ sym c.is_empty.ensures
+    ∙ c.if-is_empty.true) seen
 
 pub returns-clause-situation : goal.returns-clause-situation
-returns-clause-situation c = follows c.args.checked.now c.args.situation.now c.follow.new.self c.in_ok-conclusion.conclusion.act c.requires.situation c.follow.ensures.loaded c.follow.ensures.lives
+returns-clause-situation c =
+    follows c.args.checked.now c.args.situation.now c.follow.new.self c.in_ok-conclusion.conclusion.act
+    c.requires.situation c.follow.ensures.loaded c.follow.ensures.lives
 
 pub returns-clause-stood : goal.returns-clause-stood
 returns-clause-stood c = λ s seen.
-    somebody_stands s c.args.names c.args.checked.now c.args.situation.now c.follow.new.self c.in_ok-conclusion.conclusion
-    (ap (λ (names : List (List ℕ)). length names == 0) (sym c.as_slice.ensures) ∙ sym c.is_empty.ensures ∙ c.if-is_empty.false)
+    somebody_stands s c.args.names c.args.checked.now c.args.situation.now c.follow.new.self
+    c.in_ok-conclusion.conclusion
+    (ap (λ (names : List (List ℕ)). length names == 0) (sym c.as_slice.ensures) ∙ sym c.is_empty.ensures
+    ∙ c.if-is_empty.false)
     (λ t seen_then. subst (λ (r : SwitchRequest). IsConclusionOf t (request.Switch r) c.in_ok-conclusion.conclusion)
-    (ap₂ as_far_as c.in_ok-picks.ensures c.new.ensures) (c.in_ok-conclusion.ensures.concluded t seen_then)) c.follow.ensures.loaded c.follow.ensures.lives seen
+    (ap₂ as_far_as c.in_ok-picks.ensures c.new.ensures) (c.in_ok-conclusion.ensures.concluded t seen_then))
+    c.follow.ensures.loaded c.follow.ensures.lives seen

@@ -11,7 +11,8 @@ pub plan_with-requires-clause-relations : goal.plan_with-requires-clause-relatio
 plan_with-requires-clause-relations c = c.requires.relations ∙ ap relations_of (sym c.view.ensures.checked)
 
 pub act_of-requires : goal.act_of-requires
-act_of-requires c = record { relations = c.requires.relations; within = rw c.deref.ensures.value c.requires.situation.within }
+act_of-requires c =
+    record { relations = c.requires.relations; within = rw c.deref.ensures.value c.requires.situation.within }
 
 pub returns : goal.returns
 returns c =
@@ -19,8 +20,12 @@ returns c =
     let situation = c.args.situation.now in
     let r = c.args.request.now in
     let planned_so = c.in_ok-plan.ensures
-    ∙ ap (λ scene. plan_of scene r) (scene_of_view c.view.result d situation.loaded.items situation.lives.items c.view.ensures.checked c.view.ensures.loaded c.view.ensures.lives) in
+    ∙ ap (λ scene. plan_of scene r)
+    (scene_of_view c.view.result d situation.loaded.items situation.lives.items c.view.ensures.checked
+    c.view.ensures.loaded c.view.ensures.lives) in
     record {
-      concluded = λ s seen. switch_concluded s d situation seen r c.in_ok-plan.plan planned_so c.in_ok-act.act (rw c.deref.ensures.value at c.in_ok-act.ensures);
-      within = switch_within d c.deref.result.now c.in_ok-plan.plan (length situation.lives.items) c.in_ok-act.act c.in_ok-act.ensures;
+      concluded = λ s seen. switch_concluded s d situation seen r c.in_ok-plan.plan planned_so c.in_ok-act.act
+          (rw c.deref.ensures.value at c.in_ok-act.ensures);
+      within = switch_within d c.deref.result.now c.in_ok-plan.plan (length situation.lives.items) c.in_ok-act.act
+          c.in_ok-act.ensures;
     }

@@ -6,4 +6,5 @@ use Rattle.request_plan.proofs.switches.of_serials.Given as goal
 
 -- those so far
 abbrev pub invariant-loop-seen : goal.invariant-loop-seen
-invariant-loop-seen l = l.list.items ≡ map member (filter (λ s. is_listed l.serials s.serial) (take l.seen-index l.loaded))
+invariant-loop-seen l =
+    l.list.items ≡ map member (filter (λ s. is_listed l.serials s.serial) (take l.seen-index l.loaded))

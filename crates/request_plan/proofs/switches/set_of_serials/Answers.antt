@@ -5,8 +5,11 @@ use Rattle.request_plan.proofs.switches.set_of_serials.Goals as goal
 
 pub as_set-requires : goal.as_set-requires
 as_set-requires c =
-    listed_within (length c.args.checked.now.controllers) (λ l. is_listed c.args.serials.now l.serial) c.args.loaded.now c.deref.result.now (c.deref.ensures.value ∙ c.in_ok-members.ensures) c.requires
+    listed_within (length c.args.checked.now.controllers) (λ l. is_listed c.args.serials.now l.serial) c.args.loaded.now
+    c.deref.result.now (c.deref.ensures.value ∙ c.in_ok-members.ensures) c.requires
 
 pub returns-clause-set : goal.returns-clause-set
 returns-clause-set c =
-    c.in_ok-set.ensures.set ∙ listed_set (λ l. is_listed c.args.serials.now l.serial) c.args.loaded.now c.deref.result.now (c.deref.ensures.value ∙ c.in_ok-members.ensures)
+    c.in_ok-set.ensures.set
+    ∙ listed_set (λ l. is_listed c.args.serials.now l.serial) c.args.loaded.now c.deref.result.now
+    (c.deref.ensures.value ∙ c.in_ok-members.ensures)

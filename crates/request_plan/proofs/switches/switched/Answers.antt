@@ -18,7 +18,9 @@ returns-clause-flags c =
       set = c.in_ok-set.ensures.length ∙ c.in_ok-without.ensures.length ∙ c.in_ok-before.ensures.length;
       stopped = c.in_ok-stopped.ensures.length;
       started = c.in_ok-started.ensures.length;
-      chained = flags-long c.in_ok-chained.chained (is_chained_in c.args.checked.now.controllers (set_of c.in_ok-set.set)) (length c.leaders.result.now) (length c.args.checked.now.controllers)
+      chained = flags-long c.in_ok-chained.chained
+          (is_chained_in c.args.checked.now.controllers (set_of c.in_ok-set.set)) (length c.leaders.result.now)
+          (length c.args.checked.now.controllers)
           c.in_ok-chained.ensures rows;
     }
 
@@ -26,12 +28,16 @@ pub returns-clause-sets : goal.returns-clause-sets
 returns-clause-sets c = record {
   stopped = c.in_ok-stopped.ensures.set;
   started = c.in_ok-started.ensures.set;
-  set = set_made c.args.loaded.now c.args.off.now c.args.on.now c.in_ok-before.before c.in_ok-without.field-0 c.in_ok-stopped.stopped c.in_ok-started.started c.in_ok-set.set
-      c.in_ok-before.ensures.set c.in_ok-stopped.ensures.set c.in_ok-started.ensures.set c.in_ok-without.ensures.set c.in_ok-set.ensures.set;
+  set = set_made c.args.loaded.now c.args.off.now c.args.on.now c.in_ok-before.before c.in_ok-without.field-0
+      c.in_ok-stopped.stopped c.in_ok-started.started c.in_ok-set.set
+      c.in_ok-before.ensures.set c.in_ok-stopped.ensures.set c.in_ok-started.ensures.set c.in_ok-without.ensures.set
+      c.in_ok-set.ensures.set;
 }
 
 pub returns-clause-chained : goal.returns-clause-chained
 returns-clause-chained c =
-    flags-set c.in_ok-chained.chained (is_chained_in c.args.checked.now.controllers (set_of c.in_ok-set.set)) (length c.leaders.result.now) (length c.args.checked.now.controllers)
-    c.in_ok-chained.ensures (ap length c.leaders.ensures ∙ leaders_long c.args.relations.now c.args.checked.now c.requires.relations)
+    flags-set c.in_ok-chained.chained (is_chained_in c.args.checked.now.controllers (set_of c.in_ok-set.set))
+    (length c.leaders.result.now) (length c.args.checked.now.controllers)
+    c.in_ok-chained.ensures
+    (ap length c.leaders.ensures ∙ leaders_long c.args.relations.now c.args.checked.now c.requires.relations)
     (λ p past. chained_past c.args.checked.now.controllers (set_of c.in_ok-set.set) p past)

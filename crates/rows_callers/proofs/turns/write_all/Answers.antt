@@ -28,13 +28,19 @@ work_sync = search (sendable, crosses) depth 40
 
 -- what a closure captures of its thread's calls: the runtime, the lock and the work
 captured : (R : RattleType) → IsSync R → (ν : Sym) (a b c : NamedLft)
-    → IsSync (TupleAt ν (ShrRef a.mir a.lft R ∷ ShrRef b.mir b.lft (Lock.the_row Book.the_row Line.the_row Any.the_row ghosts) ∷ ShrRef c.mir c.lft Work.the_row ∷ []))
+    → IsSync (TupleAt ν
+    (ShrRef a.mir a.lft R ∷ ShrRef b.mir b.lft (Lock.the_row Book.the_row Line.the_row Any.the_row ghosts)
+    ∷ ShrRef c.mir c.lft Work.the_row ∷ []))
 captured R s ν a b c =
     let lock = Lock.the_row Book.the_row Line.the_row Any.the_row ghosts in
-    let types : List RattleType = ShrRef a.mir a.lft R ∷ ShrRef b.mir b.lft lock ∷ ShrRef c.mir c.lft Work.the_row ∷ [] in
+    let types : List RattleType =
+    ShrRef a.mir a.lft R ∷ ShrRef b.mir b.lft lock ∷ ShrRef c.mir c.lft Work.the_row ∷ [] in
     declared_sync (type_at ν types) (
       as_row_sync (row_field (ShrRef a.mir a.lft R)) (shr_sync a.mir a.lft R s),
-      (as_row_sync (row_field (ShrRef b.mir b.lft lock)) (shr_sync b.mir b.lft lock shared), (as_row_sync (row_field (ShrRef c.mir c.lft Work.the_row)) (shr_sync c.mir c.lft Work.the_row work_sync), tt)),
+      (
+        as_row_sync (row_field (ShrRef b.mir b.lft lock)) (shr_sync b.mir b.lft lock shared),
+        (as_row_sync (row_field (ShrRef c.mir c.lft Work.the_row)) (shr_sync c.mir c.lft Work.the_row work_sync), tt),
+      ),
     )
 
 pub map_vec-requires-send-J : goal.map_vec-requires-send-J

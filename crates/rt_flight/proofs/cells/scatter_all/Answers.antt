@@ -1,4 +1,5 @@
-use Rattle.std.proofs.Common.{◌≡◌, ◌<◌, ◌+◌, ◌^◌, ℕ, List, [], ◌∷◌, ◌++◌, length, map, take, drop, slice_set, sym, ap, ap₂, subst, ◌∙◌, append_assoc, arith}
+use Rattle.std.proofs.Common.{◌≡◌, ◌<◌, ◌+◌, ◌^◌, ℕ, List, [], ◌∷◌, ◌++◌, length, map, take}
+use Rattle.std.proofs.Common.{drop, slice_set, sym, ap, ap₂, subst, ◌∙◌, append_assoc, arith}
 use Rattle.std.specs.Prelude.{slice_index_or}
 use Rattle.std.specs.List.{AllByRecursion}
 use Rattle.std.proofs.lemmas.List.{drop_more, take_more_set, drop-set-lt}
@@ -20,9 +21,14 @@ scatter-requires g c =
     let numbers : all_numbers (item ∷ later) ≡ all_numbers (drop i l.cells) = ap all_numbers (sym left) in
     let count : length (item ∷ later) ≡ length (drop i l.cells) = ap (λ (ds : List CellFacts). length ds) (sym left) in
     record {
-      connected = (subst (λ (ds : List CellFacts). AllByRecursion (λ d. IsConnectedTo placed (length l.hardware.loans) d.workspace) ds) left l.invariant.connected).0;
-      few_states = (subst (λ (ds : List CellFacts). AllByRecursion (λ d. length d.workspace.states < 2 ^ 8) ds) left l.invariant.few_states).0;
-      few_outs = (subst (λ (ds : List CellFacts). AllByRecursion (λ d. length d.workspace.outs < 2 ^ 8) ds) left l.invariant.few_outs).0;
+      connected = (subst
+          (λ (ds : List CellFacts). AllByRecursion (λ d. IsConnectedTo placed (length l.hardware.loans) d.workspace) ds)
+          left l.invariant.connected).0;
+      few_states =
+          (subst (λ (ds : List CellFacts). AllByRecursion (λ d. length d.workspace.states < 2 ^ 8) ds) left
+          l.invariant.few_states).0;
+      few_outs = (subst (λ (ds : List CellFacts). AllByRecursion (λ d. length d.workspace.outs < 2 ^ 8) ds) left
+          l.invariant.few_outs).0;
       told = record {
         heads = omega (arith, l.invariant.heads, count);
         values = omega (arith, l.invariant.values, values);
@@ -42,7 +48,8 @@ loop-cell-preserved g c =
     let within : i < length l.cells = omega (arith, c.loop-cell-test.true) in
     let left : drop i l.cells ≡ item ∷ later = drop_more l.cells i c.cell-item.result within in
     let rest : drop (i + 1) next ≡ later = drop-set-lt (i + 1) l.cells i c.scatter.new.self (omega arith) in
-    let sofar : take (i + 1) next ≡ take i l.cells ++ c.scatter.new.self ∷ [] = take_more_set l.cells i c.scatter.new.self within in
+    let sofar : take (i + 1) next ≡ take i l.cells ++ c.scatter.new.self ∷ [] =
+    take_more_set l.cells i c.scatter.new.self within in
     let leaves = c.scatter.ensures.leaves in
     let values : all_outs (item ∷ later) ≡ all_outs (drop i l.cells) = ap all_outs (sym left) in
     let numbers : all_numbers (item ∷ later) ≡ all_numbers (drop i l.cells) = ap all_numbers (sym left) in
@@ -59,13 +66,19 @@ loop-cell-preserved g c =
       flying = ap₂ (λ (ds : List CellFacts) (f : Flying). all_put placed ds f) rest c.scatter.ensures.flying
           ∙ ap (λ (ds : List CellFacts). all_put placed ds (flying l.hardware l.ran.rans l.erred.items)) (sym left)
           ∙ l.invariant.flying;
-      connected = subst (λ (ds : List CellFacts). AllByRecursion (λ d. IsConnectedTo placed (length c.scatter.new.hardware.loans) d.workspace) ds) (sym rest)
+      connected = subst
+          (λ (ds : List CellFacts). AllByRecursion
+          (λ d. IsConnectedTo placed (length c.scatter.new.hardware.loans) d.workspace) ds) (sym rest)
           (subst (λ (n : ℕ). AllByRecursion (λ d. IsConnectedTo placed n d.workspace) later) (sym leaves.board)
-          (subst (λ (ds : List CellFacts). AllByRecursion (λ d. IsConnectedTo placed (length l.hardware.loans) d.workspace) ds) left l.invariant.connected).1);
-      few_states = subst (λ (ds : List CellFacts). AllByRecursion (λ d. length d.workspace.states < 2 ^ 8) ds) (sym rest)
-          (subst (λ (ds : List CellFacts). AllByRecursion (λ d. length d.workspace.states < 2 ^ 8) ds) left l.invariant.few_states).1;
+          (subst (λ (ds : List CellFacts). AllByRecursion
+          (λ d. IsConnectedTo placed (length l.hardware.loans) d.workspace) ds) left l.invariant.connected).1);
+      few_states =
+          subst (λ (ds : List CellFacts). AllByRecursion (λ d. length d.workspace.states < 2 ^ 8) ds) (sym rest)
+          (subst (λ (ds : List CellFacts). AllByRecursion (λ d. length d.workspace.states < 2 ^ 8) ds) left
+          l.invariant.few_states).1;
       few_outs = subst (λ (ds : List CellFacts). AllByRecursion (λ d. length d.workspace.outs < 2 ^ 8) ds) (sym rest)
-          (subst (λ (ds : List CellFacts). AllByRecursion (λ d. length d.workspace.outs < 2 ^ 8) ds) left l.invariant.few_outs).1;
+          (subst (λ (ds : List CellFacts). AllByRecursion (λ d. length d.workspace.outs < 2 ^ 8) ds) left
+          l.invariant.few_outs).1;
       heads = omega (arith, l.invariant.heads, leaves.heads, count, count_left);
       values = omega (arith, l.invariant.values, leaves.values, values, values_left);
       numbers = omega (arith, l.invariant.numbers, leaves.numbers, numbers, numbers_left);

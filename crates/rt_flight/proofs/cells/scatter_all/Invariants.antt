@@ -10,7 +10,8 @@ invariant-loop-cell g l = record {
   cells : take l.cell-index l.cells ++ map cell_put (drop l.cell-index l.cells) ≡ map cell_put l.fn.cells;
   flying : all_put l.places (drop l.cell-index l.cells) (flying l.hardware l.ran.rans l.erred.items)
       ≡ all_put l.places l.fn.cells (flying l.fn.hardware l.fn.ran.rans l.fn.erred.items);
-  connected : AllByRecursion (λ c. IsConnectedTo l.places (length l.hardware.loans) c.workspace) (drop l.cell-index l.cells);
+  connected : AllByRecursion (λ c. IsConnectedTo l.places (length l.hardware.loans) c.workspace)
+      (drop l.cell-index l.cells);
   few_states : AllByRecursion (λ c. length c.workspace.states < 2 ^ 8) (drop l.cell-index l.cells);
   few_outs : AllByRecursion (λ c. length c.workspace.outs < 2 ^ 8) (drop l.cell-index l.cells);
   heads : length (drop l.cell-index l.cells) ≤ l.ran.heads;

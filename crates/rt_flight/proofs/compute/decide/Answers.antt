@@ -17,8 +17,10 @@ decide-requires-clause-room c = c.requires.can.stops
 -- the report is that of each state of which this is told
 pub returns : goal.returns
 returns c = record {
-  ending = λ s is. c.decide.ensures.sets s is.valid is.steady (record { relations = is.related; order = is.order; failed = c.as_slice.ensures ∙ is.failed; erred = is.erred });
-  stops = λ s is. c.decide.ensures.stops s is.valid (record { relations = is.related; order = is.order; failed = c.as_slice.ensures ∙ is.failed; erred = is.erred });
+  ending = λ s is. c.decide.ensures.sets s is.valid is.steady
+      (record { relations = is.related; order = is.order; failed = c.as_slice.ensures ∙ is.failed; erred = is.erred });
+  stops = λ s is. c.decide.ensures.stops s is.valid
+      (record { relations = is.related; order = is.order; failed = c.as_slice.ensures ∙ is.failed; erred = is.erred });
   told = refl;
   flags = c.decide.ensures.flags;
 }

@@ -12,7 +12,9 @@ use Rattle.rt_flight.proofs.compute.scatter_these.Goals as goal
 pub scatter_in-requires : goal.scatter_in-requires
 scatter_in-requires g c =
     let k = c.args.context.now in
-    subst (λ (o : Option RecordRoom). IsSomeAnd o (λ r. CanPutAll k.robot.places (length k.robot.hardware.loans) c.args.cells.now r.ran (vec_len k.erred) (vec_capacity k.erred))) c.in-Some.is c.requires
+    subst (λ (o : Option RecordRoom). IsSomeAnd o
+    (λ r. CanPutAll k.robot.places (length k.robot.hardware.loans) c.args.cells.now r.ran (vec_len k.erred)
+    (vec_capacity k.erred))) c.in-Some.is c.requires
 
 pub returns : goal.returns
 returns g c =
@@ -21,9 +23,17 @@ returns g c =
     record {
       put = put.put;
       flying = c.scatter_in.ensures.flying
-          ∙ ap (λ (rans : List Ran). all_put k.robot.places c.args.cells.now (flying k.robot.hardware rans k.erred.items)) (sym (ap rans_in_room c.in-Some.is));
-      context = ap (λ (x : Robot). record k { robot = x; room = Some c.scatter_in.new.room; erred = c.scatter_in.new.erred }) put.robot;
-      room = subst (λ (o : Option RecordRoom). IsSomeAnd o (λ before. TellsBut before c.scatter_in.new.room × LeavesPut (length c.args.cells.now) (all_outs c.args.cells.now)
-          (all_numbers c.args.cells.now) (length k.robot.hardware.loans) (length c.scatter_in.new.robot.hardware.loans) before.ran c.scatter_in.new.room.ran (vec_len k.erred)
-          (vec_len c.scatter_in.new.erred) (vec_capacity k.erred) (vec_capacity c.scatter_in.new.erred))) (sym c.in-Some.is) (put.told, c.scatter_in.ensures.leaves);
+          ∙ ap (λ (rans : List Ran). all_put k.robot.places c.args.cells.now
+          (flying k.robot.hardware rans k.erred.items)) (sym (ap rans_in_room c.in-Some.is));
+      context = ap
+          (λ (x : Robot). record k { robot = x; room = Some c.scatter_in.new.room; erred = c.scatter_in.new.erred })
+          put.robot;
+      room = subst
+          (λ (o : Option RecordRoom). IsSomeAnd o
+          (λ before. TellsBut before c.scatter_in.new.room
+          × LeavesPut (length c.args.cells.now) (all_outs c.args.cells.now)
+          (all_numbers c.args.cells.now) (length k.robot.hardware.loans) (length c.scatter_in.new.robot.hardware.loans)
+          before.ran c.scatter_in.new.room.ran (vec_len k.erred)
+          (vec_len c.scatter_in.new.erred) (vec_capacity k.erred) (vec_capacity c.scatter_in.new.erred)))
+          (sym c.in-Some.is) (put.told, c.scatter_in.ensures.leaves);
     }

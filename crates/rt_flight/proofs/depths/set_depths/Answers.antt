@@ -13,13 +13,15 @@ starts_depth-requires-clause-within g c = (c.loop-i.invariant.so_far.first_withi
 
 pub starts_depth-requires-clause-related : goal.starts_depth-requires-clause-related
 starts_depth-requires-clause-related g c =
-    all_deepened (λ d. d.workspace.place < length c.args.relations.now.leaders) (λ d n led. led) c.args.cells.now c.loop-i.cells c.loop-i.invariant.so_far.same c.requires.related
+    all_deepened (λ d. d.workspace.place < length c.args.relations.now.leaders) (λ d n led. led) c.args.cells.now
+    c.loop-i.cells c.loop-i.invariant.so_far.same c.requires.related
 
 pub overflow_add-depths : goal.overflow_add-depths
 overflow_add-depths g c =
     let l = c.loop-i in
     let fits : l.depths + 1 < 2 ^ 32 =
-    depths_fit c.args.relations.now c.args.cells.now l.cells l.first l.i l.depths l.invariant.so_far (omega (arith, c.loop-i-test.true)) c.starts_depth.result c.starts_depth.ensures
+    depths_fit c.args.relations.now c.args.cells.now l.cells l.first l.i l.depths l.invariant.so_far
+    (omega (arith, c.loop-i-test.true)) c.starts_depth.result c.starts_depth.ensures
     c.if-starts_depth.true c.requires.ranked in
     omega (arith, fits)
 
@@ -29,7 +31,8 @@ overflow_sub-depths g c =
     let l = c.loop-i in
     let join = c.if-starts_depth in
     let some : 1 ≤ join.depths =
-    some_depth c.args.relations.now c.args.cells.now l.cells l.first l.i l.depths l.invariant.so_far (omega (arith, c.loop-i-test.true)) c.starts_depth.result c.starts_depth.ensures join.first
+    some_depth c.args.relations.now c.args.cells.now l.cells l.first l.i l.depths l.invariant.so_far
+    (omega (arith, c.loop-i-test.true)) c.starts_depth.result c.starts_depth.ensures join.first
     join.depths (elim join.branch [
       | then-starts_depth w ↦ inl (w.if-starts_depth.true, (w.first-is, w.depths-is))
       | else-starts_depth w ↦ inr (w.if-starts_depth.false, (w.first-is, w.depths-is))
@@ -42,7 +45,8 @@ loop-i-preserved g c =
     let within : l.i < length l.cells = omega (arith, c.loop-i-test.true) in
     let join = c.if-starts_depth in
     record {
-      so_far = goes_on c.args.relations.now c.args.cells.now l.cells l.first l.i l.depths l.invariant.so_far within c.starts_depth.result c.starts_depth.ensures _ c.set_depth.new.self join.first join.depths
+      so_far = goes_on c.args.relations.now c.args.cells.now l.cells l.first l.i l.depths l.invariant.so_far within
+          c.starts_depth.result c.starts_depth.ensures _ c.set_depth.new.self join.first join.depths
           (get_or_default _ _ _ _ within) c.set_depth.ensures
           (elim join.branch [
             | then-starts_depth w ↦ inl (w.if-starts_depth.true, (w.first-is, w.depths-is))
@@ -53,4 +57,5 @@ loop-i-preserved g c =
 -- all have their depths
 pub returns : goal.returns
 returns g c =
-    put_down c.args.relations.now c.args.cells.now c.loop-i.cells c.loop-i.first c.loop-i.i c.loop-i.depths c.loop-i.invariant.so_far (omega arith)
+    put_down c.args.relations.now c.args.cells.now c.loop-i.cells c.loop-i.first c.loop-i.i c.loop-i.depths
+    c.loop-i.invariant.so_far (omega arith)

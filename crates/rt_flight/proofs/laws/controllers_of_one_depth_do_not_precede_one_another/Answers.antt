@@ -9,4 +9,5 @@ returns-clause-none c = λ s p q valid member same.
 
 pub returns-clause-references : goal.returns-clause-references
 returns-clause-references c = λ s p q interface valid member same claims.
-    no_reference s.description.controllers (valid-IsChecked s.description valid).free (active s) p q member same interface claims
+    no_reference s.description.controllers (valid-IsChecked s.description valid).free (active s) p q member same
+    interface claims

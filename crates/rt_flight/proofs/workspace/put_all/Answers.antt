@@ -8,6 +8,7 @@ loop-i-preserved c =
     let within = c.loop-i-test.true in
     let among : c.loop-i.i < length c.args.outs.now = omega (arith, within, c.requires.each) in
     rw c.set.ensures (record {
-      set = put_more c.loop-i.hardware c.args.claims.now c.args.outs.now c.loop-i.i _ c.index-outs-i.result within among (get_or_default _ _ _ _ within) c.index-outs-i.is ∙ c.loop-i.invariant.set;
+      set = put_more c.loop-i.hardware c.args.claims.now c.args.outs.now c.loop-i.i _ c.index-outs-i.result within among
+          (get_or_default _ _ _ _ within) c.index-outs-i.is ∙ c.loop-i.invariant.set;
       places = length-set c.loop-i.hardware.loans _ _ ∙ c.loop-i.invariant.places;
     })

@@ -7,5 +7,6 @@ use Rattle.rt_flight.proofs.workspace.read_numbers.Goals as goal
 pub loop-i-preserved : goal.loop-i-preserved
 loop-i-preserved c =
     rw (c.number_in.ensures, c.value.ensures)
-    (written_more (λ place. number_in (loan_at c.args.hardware.now.loans place).value) c.args.places.now c.loop-i.states c.args.states.now c.loop-i.i _
+    (written_more (λ place. number_in (loan_at c.args.hardware.now.loans place).value) c.args.places.now c.loop-i.states
+    c.args.states.now c.loop-i.i _
     c.loop-i-test.true c.requires.room c.loop-i.invariant (get_or_default _ _ _ _ c.loop-i-test.true))

@@ -6,7 +6,8 @@ use Rattle.script_text.proofs.mail.points.Given as goal
 
 -- the points so far, and those that come later
 abbrev pub invariant-loop-word : goal.invariant-loop-word
-invariant-loop-word l = found_before l.found (points_after l.before (timed (words l.left))) ≡ points_after 0 (timed (words l.text))
+invariant-loop-word l =
+    found_before l.found (points_after l.before (timed (words l.left))) ≡ points_after 0 (timed (words l.text))
 
 abbrev pub decreases-loop-word : goal.decreases-loop-word
 decreases-loop-word l = length (words l.left)

@@ -8,6 +8,7 @@ use Rattle.spawn_plan.proofs.fitting.mark.Given as goal
 abbrev pub invariant-loop-cycle : goal.invariant-loop-cycle
 invariant-loop-cycle l = record {
   long : length l.marks.items ≡ length l.fn.marks.items;
-  all : (cycle : ℕ) → cycle < length l.fn.marks.items → (set_of l.marks.items cycle || is_listed (drop l.cycle-index l.cycles) cycle)
+  all : (cycle : ℕ) → cycle < length l.fn.marks.items
+      → (set_of l.marks.items cycle || is_listed (drop l.cycle-index l.cycles) cycle)
       ≡ (set_of l.fn.marks.items cycle || is_listed l.cycles cycle);
 }

@@ -8,6 +8,7 @@ use Rattle.spawn_plan.proofs.fitting.mark_all.Given as goal
 abbrev pub invariant-loop-place : goal.invariant-loop-place
 invariant-loop-place l = record {
   long : length l.marks.items ≡ length l.fn.marks.items;
-  all : (cycle : ℕ) → cycle < length l.fn.marks.items → (set_of l.marks.items cycle || is_unready l.controllers (drop l.place-index l.places) cycle)
+  all : (cycle : ℕ) → cycle < length l.fn.marks.items
+      → (set_of l.marks.items cycle || is_unready l.controllers (drop l.place-index l.places) cycle)
       ≡ (set_of l.fn.marks.items cycle || is_unready l.controllers l.places cycle);
 }

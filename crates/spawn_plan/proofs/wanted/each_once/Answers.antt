@@ -6,7 +6,8 @@ pub returns-in_ok-clone-in-Some : goal.returns-in_ok-clone-in-Some
 returns-in_ok-clone-in-Some c =
     inr (
     some_twice c.args.wanted.now c.in_ok-clone-in-Some.field-0
-    (sym (rw c.in-Some.is at c.repeated.ensures) ∙ ap (λ (name : List ℕ). Some name) (sym c.in_ok-clone-in-Some.ensures.cases)))
+    (sym (rw c.in-Some.is at c.repeated.ensures)
+    ∙ ap (λ (name : List ℕ). Some name) (sym c.in_ok-clone-in-Some.ensures.cases)))
 
 pub returns-in-None : goal.returns-in-None
 returns-in-None c = none_once c.args.wanted.now (sym (rw c.in-None.is at c.repeated.ensures))

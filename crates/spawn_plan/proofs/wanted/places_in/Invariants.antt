@@ -7,5 +7,6 @@ use Rattle.spawn_plan.proofs.wanted.places_in.Given as goal
 abbrev pub invariant-loop-name : goal.invariant-loop-name
 invariant-loop-name l = record {
   within : All (λ place. place < length l.checked.controllers) l.places;
-  all : places_after l.checked.controllers l.places (drop l.name-index l.wanted) ≡ places_after l.checked.controllers [] l.wanted;
+  all : places_after l.checked.controllers l.places (drop l.name-index l.wanted)
+      ≡ places_after l.checked.controllers [] l.wanted;
 }

@@ -14,11 +14,13 @@ loop-place-preserved c =
       | then-has_any w ↦ record {
         long = ap length w.set-is ∙ w.insert.ensures.length ∙ c.loop-place.invariant.long;
         so_far = λ p. ap (λ flags. set_of flags p) w.set-is ∙ ap (λ f. f p) w.insert.ensures.set
-            ∙ next_in test c.loop-place.place (set_of c.loop-place.set) c.loop-place.invariant.so_far (here ∙ w.if-has_any.true) p;
+            ∙ next_in test c.loop-place.place (set_of c.loop-place.set) c.loop-place.invariant.so_far
+            (here ∙ w.if-has_any.true) p;
       }
       | else-has_any w ↦ record {
         long = ap length w.set-is ∙ c.loop-place.invariant.long;
         so_far = λ p. ap (λ flags. set_of flags p) w.set-is
-            ∙ next_out test c.loop-place.place (set_of c.loop-place.set) c.loop-place.invariant.so_far (here ∙ w.if-has_any.false) p;
+            ∙ next_out test c.loop-place.place (set_of c.loop-place.set) c.loop-place.invariant.so_far
+            (here ∙ w.if-has_any.false) p;
       }
     ]

@@ -15,15 +15,23 @@ loop-member-preserved c =
       | then-is_changed w ↦ record {
         long = ap length w.set-is ∙ w.insert.ensures.length ∙ c.loop-member.invariant.long;
         so_far = λ p. ap (λ flags. set_of flags p) w.set-is ∙ ap (λ f. f p) w.insert.ensures.set
-            ∙ one_in (λ m. is_changed_by c.args.change c.args.transition.now.leaders.now (set_of c.args.transition.now.before.now) (set_of c.args.transition.now.after.now) m.place) c.args.members.now c.loop-member.member-index somebody (set_of c.loop-member.set) c.loop-member-test.true c.loop-member.invariant.so_far (sym c.is_changed.ensures ∙ w.if-is_changed.true) p;
+            ∙ one_in (λ m. is_changed_by c.args.change c.args.transition.now.leaders.now
+            (set_of c.args.transition.now.before.now) (set_of c.args.transition.now.after.now) m.place)
+            c.args.members.now c.loop-member.member-index somebody (set_of c.loop-member.set) c.loop-member-test.true
+            c.loop-member.invariant.so_far (sym c.is_changed.ensures ∙ w.if-is_changed.true) p;
       }
       | else-is_changed w ↦ record {
         long = ap length w.set-is ∙ c.loop-member.invariant.long;
         so_far = λ p. ap (λ flags. set_of flags p) w.set-is
-            ∙ one_out (λ m. is_changed_by c.args.change c.args.transition.now.leaders.now (set_of c.args.transition.now.before.now) (set_of c.args.transition.now.after.now) m.place) c.args.members.now c.loop-member.member-index somebody (set_of c.loop-member.set) c.loop-member-test.true c.loop-member.invariant.so_far (sym c.is_changed.ensures ∙ w.if-is_changed.false) p;
+            ∙ one_out (λ m. is_changed_by c.args.change c.args.transition.now.leaders.now
+            (set_of c.args.transition.now.before.now) (set_of c.args.transition.now.after.now) m.place)
+            c.args.members.now c.loop-member.member-index somebody (set_of c.loop-member.set) c.loop-member-test.true
+            c.loop-member.invariant.so_far (sym c.is_changed.ensures ∙ w.if-is_changed.false) p;
       }
     ]
 
 pub returns-clause-set : goal.returns-clause-set
 returns-clause-set c =
-    all_in (λ m. is_changed_by c.args.change c.args.transition.now.leaders.now (set_of c.args.transition.now.before.now) (set_of c.args.transition.now.after.now) m.place) c.args.members.now c.loop-member.member-index (set_of c.loop-member.set) c.loop-member-test.false c.loop-member.invariant.so_far
+    all_in (λ m. is_changed_by c.args.change c.args.transition.now.leaders.now (set_of c.args.transition.now.before.now)
+    (set_of c.args.transition.now.after.now) m.place) c.args.members.now c.loop-member.member-index
+    (set_of c.loop-member.set) c.loop-member-test.false c.loop-member.invariant.so_far

@@ -15,15 +15,20 @@ loop-member-preserved c =
       | then-not-has w ↦ record {
         long = ap length w.set-is ∙ w.insert.ensures.length ∙ c.loop-member.invariant.long;
         so_far = λ p. ap (λ flags. set_of flags p) w.set-is ∙ ap (λ f. f p) w.insert.ensures.set
-            ∙ one_in (λ m. not (set_of c.args.fallen.now m.place)) c.args.members.now c.loop-member.member-index somebody (set_of c.loop-member.set) c.loop-member-test.true c.loop-member.invariant.so_far (ap not (sym c.has.ensures ∙ w.if-not-has.true)) p;
+            ∙ one_in (λ m. not (set_of c.args.fallen.now m.place)) c.args.members.now c.loop-member.member-index
+            somebody (set_of c.loop-member.set) c.loop-member-test.true c.loop-member.invariant.so_far
+            (ap not (sym c.has.ensures ∙ w.if-not-has.true)) p;
       }
       | else-not-has w ↦ record {
         long = ap length w.set-is ∙ c.loop-member.invariant.long;
         so_far = λ p. ap (λ flags. set_of flags p) w.set-is
-            ∙ one_out (λ m. not (set_of c.args.fallen.now m.place)) c.args.members.now c.loop-member.member-index somebody (set_of c.loop-member.set) c.loop-member-test.true c.loop-member.invariant.so_far (ap not (sym c.has.ensures ∙ w.if-not-has.false)) p;
+            ∙ one_out (λ m. not (set_of c.args.fallen.now m.place)) c.args.members.now c.loop-member.member-index
+            somebody (set_of c.loop-member.set) c.loop-member-test.true c.loop-member.invariant.so_far
+            (ap not (sym c.has.ensures ∙ w.if-not-has.false)) p;
       }
     ]
 
 pub returns-clause-set : goal.returns-clause-set
 returns-clause-set c =
-    all_in (λ m. not (set_of c.args.fallen.now m.place)) c.args.members.now c.loop-member.member-index (set_of c.loop-member.set) c.loop-member-test.false c.loop-member.invariant.so_far
+    all_in (λ m. not (set_of c.args.fallen.now m.place)) c.args.members.now c.loop-member.member-index
+    (set_of c.loop-member.set) c.loop-member-test.false c.loop-member.invariant.so_far

@@ -8,5 +8,6 @@ use Rattle.stop_plan.proofs.sets.gather_staying.Given as goal
 abbrev pub invariant-loop-member : goal.invariant-loop-member
 invariant-loop-member l = record {
   long : length l.set ≡ length l.fn.set;
-  so_far : (p : ℕ) → set_of l.set p ≡ places_where (λ m. not (set_of l.fallen m.place)) (take l.member-index l.members) p;
+  so_far : (p : ℕ)
+      → set_of l.set p ≡ places_where (λ m. not (set_of l.fallen m.place)) (take l.member-index l.members) p;
 }

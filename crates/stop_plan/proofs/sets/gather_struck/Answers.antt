@@ -15,15 +15,20 @@ loop-member-preserved c =
       | then-is_struck w ↦ record {
         long = ap length w.set-is ∙ w.insert.ensures.length ∙ c.loop-member.invariant.long;
         so_far = λ p. ap (λ flags. set_of flags p) w.set-is ∙ ap (λ f. f p) w.insert.ensures.set
-            ∙ one_in (is_struck_in c.args.report.now) c.args.report.now.order.now c.loop-member.member-index somebody (set_of c.loop-member.set) c.loop-member-test.true c.loop-member.invariant.so_far (sym c.is_struck.ensures ∙ w.if-is_struck.true) p;
+            ∙ one_in (is_struck_in c.args.report.now) c.args.report.now.order.now c.loop-member.member-index somebody
+            (set_of c.loop-member.set) c.loop-member-test.true c.loop-member.invariant.so_far
+            (sym c.is_struck.ensures ∙ w.if-is_struck.true) p;
       }
       | else-is_struck w ↦ record {
         long = ap length w.set-is ∙ c.loop-member.invariant.long;
         so_far = λ p. ap (λ flags. set_of flags p) w.set-is
-            ∙ one_out (is_struck_in c.args.report.now) c.args.report.now.order.now c.loop-member.member-index somebody (set_of c.loop-member.set) c.loop-member-test.true c.loop-member.invariant.so_far (sym c.is_struck.ensures ∙ w.if-is_struck.false) p;
+            ∙ one_out (is_struck_in c.args.report.now) c.args.report.now.order.now c.loop-member.member-index somebody
+            (set_of c.loop-member.set) c.loop-member-test.true c.loop-member.invariant.so_far
+            (sym c.is_struck.ensures ∙ w.if-is_struck.false) p;
       }
     ]
 
 pub returns-clause-set : goal.returns-clause-set
 returns-clause-set c =
-    all_in (is_struck_in c.args.report.now) c.args.report.now.order.now c.loop-member.member-index (set_of c.loop-member.set) c.loop-member-test.false c.loop-member.invariant.so_far
+    all_in (is_struck_in c.args.report.now) c.args.report.now.order.now c.loop-member.member-index
+    (set_of c.loop-member.set) c.loop-member-test.false c.loop-member.invariant.so_far

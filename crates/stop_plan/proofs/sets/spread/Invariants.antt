@@ -9,7 +9,8 @@ abbrev pub invariant-loop-left : goal.invariant-loop-left
 invariant-loop-left l = record {
   long : length l.set ≡ length l.fn.set;
   most : l.left ≤ length l.report.order.now;
-  so_far : set_of l.set ≡ spread (linked l.report.relations.now.followers) (drop l.left l.report.order.now) (set_of l.fn.set);
+  so_far : set_of l.set
+      ≡ spread (linked l.report.relations.now.followers) (drop l.left l.report.order.now) (set_of l.fn.set);
 }
 
 abbrev pub decreases-loop-left : goal.decreases-loop-left

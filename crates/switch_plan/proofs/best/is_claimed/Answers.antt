@@ -7,5 +7,6 @@ use Rattle.switch_plan.proofs.best.is_claimed.Goals as goal
 
 pub returns-then-is_claimed_at : goal.returns-then-is_claimed_at
 returns-then-is_claimed_at c =
-    sym (some_below-from (λ q. set_of c.args.set.now q && claims_at c.args.controllers.now q c.args.interface.now) (length c.args.controllers.now) c.loop-place.place
+    sym (some_below-from (λ q. set_of c.args.set.now q && claims_at c.args.controllers.now q c.args.interface.now)
+    (length c.args.controllers.now) c.loop-place.place
     c.loop-place-test.true (sym c.if-is_claimed_at.ensures))

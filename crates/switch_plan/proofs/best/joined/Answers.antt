@@ -11,7 +11,8 @@ loop-member-init c =
     let scene = set_scene c.args.setting.now in
     record {
       long = c.in_ok-set.ensures.length ∙ c.requires.setting.flags;
-      rest = joining-begun scene (set_of c.args.setting.now.active.now) (set_of c.args.leaving.now) (set_of c.in_ok-set.set) c.args.dropped.now.items c.args.coming.now
+      rest = joining-begun scene (set_of c.args.setting.now.active.now) (set_of c.args.leaving.now)
+          (set_of c.in_ok-set.set) c.args.dropped.now.items c.args.coming.now
           c.deref-member-items.result.now c.requires.setting.active c.in_ok-set.ensures.set
           (c.deref-member-items.ensures.value ∙ c.in_ok-ordered.ensures.order);
     }
@@ -19,7 +20,9 @@ loop-member-init c =
 pub join-requires : goal.join-requires
 join-requires c =
     let n = length (controllers_in (set_scene c.args.setting.now)) in
-    let within = All-get_or (λ m. m.place < n) c.deref-member-items.result.now c.loop-member.member-index (record { serial = 0; place = 0 }) c.loop-member-test.true
+    let within =
+    All-get_or (λ m. m.place < n) c.deref-member-items.result.now c.loop-member.member-index
+    (record { serial = 0; place = 0 }) c.loop-member-test.true
     (rw c.deref-member-items.ensures.value c.in_ok-ordered.ensures.within) in
     record { setting = c.requires.setting; within = within; flags = c.loop-member.invariant.long }
 
@@ -28,7 +31,9 @@ loop-member-preserved c =
     let scene = set_scene c.args.setting.now in
     record {
       long = c.in_ok-set-2.ensures.length;
-      rest = joining-more scene (set_of c.in_ok-on.on) (places_of c.args.coming.now) (set_of c.loop-member.set) (set_of c.in_ok-set-2.set) c.loop-member.dropped.items c.join.new.dropped.items
-          c.deref-member-items.result.now c.loop-member.member-index (record { serial = 0; place = 0 }) c.loop-member-test.true c.in_ok-on.ensures.set c.in_ok-set-2.ensures.joined
+      rest = joining-more scene (set_of c.in_ok-on.on) (places_of c.args.coming.now) (set_of c.loop-member.set)
+          (set_of c.in_ok-set-2.set) c.loop-member.dropped.items c.join.new.dropped.items
+          c.deref-member-items.result.now c.loop-member.member-index (record { serial = 0; place = 0 })
+          c.loop-member-test.true c.in_ok-on.ensures.set c.in_ok-set-2.ensures.joined
           ∙ c.loop-member.invariant.rest;
     }

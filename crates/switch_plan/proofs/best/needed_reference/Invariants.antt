@@ -8,5 +8,7 @@ use Rattle.switch_plan.proofs.best.needed_reference.Given as goal
 
 -- no reference so far is claimed
 abbrev pub invariant-loop-own : goal.invariant-loop-own
-invariant-loop-own l = find (is_claimed_by (controllers_in (scene_of l.view)) (set_of l.staying)) (map (reference_for l.controller.name) (drop l.own-index (exported_for l.controller.params l.controller)))
+invariant-loop-own l =
+    find (is_claimed_by (controllers_in (scene_of l.view)) (set_of l.staying))
+    (map (reference_for l.controller.name) (drop l.own-index (exported_for l.controller.params l.controller)))
     ≡ find (is_claimed_by (controllers_in (scene_of l.view)) (set_of l.staying)) (refs_of l.controller)

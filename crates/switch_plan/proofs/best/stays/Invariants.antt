@@ -8,4 +8,6 @@ use Rattle.switch_plan.proofs.best.stays.Given as goal
 
 -- those that stay as far as so many links lead
 abbrev pub invariant-loop-round : goal.invariant-loop-round
-invariant-loop-round l = l.staying ≡ each_below (stays_within (scene_of l.setting.view) (set_of l.leaving) l._round) (length (controllers_in (scene_of l.setting.view)))
+invariant-loop-round l =
+    l.staying ≡ each_below (stays_within (scene_of l.setting.view) (set_of l.leaving) l._round)
+    (length (controllers_in (scene_of l.setting.view)))

@@ -9,5 +9,6 @@ is_chained-requires c = omega (arith, c.requires.within, c.requires.setting.rows
 
 pub returns : goal.returns
 returns c =
-    c.stays_or_chained.ensures ∙ ap₂ (λ a b. a || b) c.has.ensures (ap₂ (λ a b. a && b) (c.has-2.ensures ∙ c.requires.setting.active c.args.place)
+    c.stays_or_chained.ensures
+    ∙ ap₂ (λ a b. a || b) c.has.ensures (ap₂ (λ a b. a && b) (c.has-2.ensures ∙ c.requires.setting.active c.args.place)
     (c.is_chained.ensures (controllers_in (set_scene c.args.setting.now)) c.requires.setting.leaders))

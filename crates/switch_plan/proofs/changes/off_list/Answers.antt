@@ -16,7 +16,11 @@ returns c =
     let moves : ℕ → Bool = is_stopped scene (after c.args.change.now) (again c.args.change.now) in
     let serials : List Member → List ℕ = λ ms. map (λ m. m.serial) ms in
     c.from_vec.ensures ∙ c.in_ok-list.ensures ∙ ap serials (c.deref-2.ensures.value ∙ c.in_ok-ordered.ensures.order
-    ∙ ap (λ ms. in_order (controllers_in scene) (set_of c.args.change.now.setting.active.now) ms) (c.deref.ensures.value ∙ c.in_ok-stopped.ensures.list)
-    ∙ ap (λ s. in_order (controllers_in scene) s (map member (filter (λ l. moves l.place) scene.loaded))) (fun_ext c.requires.setting.active)
+    ∙ ap (λ ms. in_order (controllers_in scene) (set_of c.args.change.now.setting.active.now) ms)
+    (c.deref.ensures.value ∙ c.in_ok-stopped.ensures.list)
+    ∙ ap (λ s. in_order (controllers_in scene) s (map member (filter (λ l. moves l.place) scene.loaded)))
+    (fun_ext c.requires.setting.active)
     ∙ sym (moved_in_order (controllers_in scene) (active scene) moves
-    (λ p is. (and_parts (active scene p) (not (after c.args.change.now p) || restarts scene (after c.args.change.now) (again c.args.change.now) p) is).0) scene.loaded))
+    (λ p is. (and_parts (active scene p)
+    (not (after c.args.change.now p) || restarts scene (after c.args.change.now) (again c.args.change.now) p) is).0)
+    scene.loaded))

@@ -14,7 +14,10 @@ returns c =
     let scene : Scene = change_scene c.args.change.now in
     let moves : ℕ → Bool = is_started scene (after c.args.change.now) (again c.args.change.now) in
     let serials : List Member → List ℕ = λ ms. reverse (map (λ m. m.serial) ms) in
-    c.from_vec.ensures ∙ c.reverse.ensures.items ∙ ap reverse c.in_ok-list.ensures ∙ ap serials (c.deref-2.ensures.value ∙ c.in_ok-ordered.ensures.order
-    ∙ ap (λ ms. in_order (controllers_in scene) (after c.args.change.now) ms) (c.deref.ensures.value ∙ c.in_ok-started.ensures.list)
+    c.from_vec.ensures ∙ c.reverse.ensures.items ∙ ap reverse c.in_ok-list.ensures
+    ∙ ap serials (c.deref-2.ensures.value ∙ c.in_ok-ordered.ensures.order
+    ∙ ap (λ ms. in_order (controllers_in scene) (after c.args.change.now) ms)
+    (c.deref.ensures.value ∙ c.in_ok-started.ensures.list)
     ∙ sym (moved_in_order (controllers_in scene) (after c.args.change.now) moves
-    (λ p is. (and_parts (after c.args.change.now p) (not (active scene p) || restarts scene (after c.args.change.now) (again c.args.change.now) p) is).0) scene.loaded))
+    (λ p is. (and_parts (after c.args.change.now p)
+    (not (active scene p) || restarts scene (after c.args.change.now) (again c.args.change.now) p) is).0) scene.loaded))

@@ -7,4 +7,7 @@ use Rattle.switch_plan.proofs.changes.started.Given as goal
 
 -- those so far
 abbrev pub invariant-loop-seen : goal.invariant-loop-seen
-invariant-loop-seen l = l.list.items ≡ kept (λ s. is_started (scene_of l.change.setting.view) (set_of l.change.set.now) (set_of l.change.again.now) s.place) (take l.seen-index l.change.setting.view.loaded.now)
+invariant-loop-seen l =
+    l.list.items
+    ≡ kept (λ s. is_started (scene_of l.change.setting.view) (set_of l.change.set.now) (set_of l.change.again.now)
+    s.place) (take l.seen-index l.change.setting.view.loaded.now)

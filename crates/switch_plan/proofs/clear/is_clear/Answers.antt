@@ -11,5 +11,6 @@ pub followers-requires : goal.followers-requires
 followers-requires c =
     let cs = controllers_in (scene_of c.args.view.now) in
     let rows : length c.args.relations.now.followers ≡ length cs =
-    ap (λ (w : Related). length w.followers) c.requires.relations ∙ length-each_below (λ p. places_below (λ q. precedes_at cs p q) (length cs)) (length cs) in
+    ap (λ (w : Related). length w.followers) c.requires.relations
+    ∙ length-each_below (λ p. places_below (λ q. precedes_at cs p q) (length cs)) (length cs) in
     omega (arith, rows, c.requires.within)

@@ -17,6 +17,8 @@ returns c = λ yes on.
     let p = c.args.place in
     let w = relations_of scene.description in
     let seen : (not (list_any (λ q. not (set q)) (linked w.followers p)) && may_start scene w set p) ≡ true =
-    subst (λ (r : Related). (not (list_any (λ q. not (set q)) (linked r.followers p)) && may_start scene r set p) ≡ true) c.requires.relations (sym c.starts_led.ensures ∙ yes) in
+    subst (λ (r : Related). (not (list_any (λ q. not (set q)) (linked r.followers p)) && may_start scene r set p)
+    ≡ true) c.requires.relations (sym c.starts_led.ensures ∙ yes) in
     let parts = and_parts (not (list_any (λ q. not (set q)) (linked w.followers p))) (may_start scene w set p) seen in
-    fault-clear scene set on p c.requires.within c.requires.view (not-true (list_any (λ q. not (set q)) (linked w.followers p)) parts.0) parts.1
+    fault-clear scene set on p c.requires.within c.requires.view
+    (not-true (list_any (λ q. not (set q)) (linked w.followers p)) parts.0) parts.1

@@ -7,5 +7,7 @@ use Rattle.switch_plan.proofs.faults.fault.Given as goal
 
 -- no fault of the kinds so far
 abbrev pub invariant-loop-kind : goal.invariant-loop-kind
-invariant-loop-kind l = first_of (λ kind. fault_of_kind (scene_of l.proposal.view) (set_of l.proposal.set.now) (set_of l.proposal.on.now) kind l.place) (drop l.kind-index FAULT_KINDS)
+invariant-loop-kind l =
+    first_of (λ kind. fault_of_kind (scene_of l.proposal.view) (set_of l.proposal.set.now) (set_of l.proposal.on.now)
+    kind l.place) (drop l.kind-index FAULT_KINDS)
     ≡ fault (scene_of l.proposal.view) (set_of l.proposal.set.now) (set_of l.proposal.on.now) l.place

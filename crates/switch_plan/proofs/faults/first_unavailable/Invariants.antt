@@ -6,5 +6,6 @@ use Rattle.switch_plan.proofs.faults.first_unavailable.Given as goal
 
 -- the interfaces so far are available
 abbrev pub invariant-loop-interface : goal.invariant-loop-interface
-invariant-loop-interface l = first_of (λ i. cause_if (is_unavailable (scene_of l.view) i) (cause.Unavailable i)) (drop l.interface-index l.these)
+invariant-loop-interface l =
+    first_of (λ i. cause_if (is_unavailable (scene_of l.view) i) (cause.Unavailable i)) (drop l.interface-index l.these)
     ≡ first_of (λ i. cause_if (is_unavailable (scene_of l.view) i) (cause.Unavailable i)) l.these

@@ -9,5 +9,8 @@ use Rattle.switch_plan.proofs.faults.is_mode_taken.Given as goal
 
 -- the members so far do not take it
 abbrev pub invariant-loop-seen : goal.invariant-loop-seen
-invariant-loop-seen l = list_any (λ s. set_of l.proposal.set.now s.place && list_any (is_beside l.interface) (described (scene_of l.proposal.view) s.place).claims) (drop l.seen-index l.proposal.view.loaded.now)
+invariant-loop-seen l =
+    list_any (λ s. set_of l.proposal.set.now s.place
+    && list_any (is_beside l.interface) (described (scene_of l.proposal.view) s.place).claims)
+    (drop l.seen-index l.proposal.view.loaded.now)
     ≡ is_mode_taken (scene_of l.proposal.view) (set_of l.proposal.set.now) l.interface

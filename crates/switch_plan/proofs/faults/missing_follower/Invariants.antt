@@ -9,5 +9,7 @@ use Rattle.switch_plan.proofs.faults.missing_follower.Given as goal
 -- the claims so far are not missing
 abbrev pub invariant-loop-claim : goal.invariant-loop-claim
 invariant-loop-claim l =
-    first_of (λ i. cause_if (is_missing (controllers_in (scene_of l.proposal.view)) (set_of l.proposal.set.now) i) (cause.MissingFollower i)) (drop l.claim-index l.claims)
-    ≡ first_of (λ i. cause_if (is_missing (controllers_in (scene_of l.proposal.view)) (set_of l.proposal.set.now) i) (cause.MissingFollower i)) l.claims
+    first_of (λ i. cause_if (is_missing (controllers_in (scene_of l.proposal.view)) (set_of l.proposal.set.now) i)
+    (cause.MissingFollower i)) (drop l.claim-index l.claims)
+    ≡ first_of (λ i. cause_if (is_missing (controllers_in (scene_of l.proposal.view)) (set_of l.proposal.set.now) i)
+    (cause.MissingFollower i)) l.claims

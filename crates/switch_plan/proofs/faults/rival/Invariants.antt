@@ -6,5 +6,8 @@ use Rattle.switch_plan.proofs.faults.rival.Given as goal
 
 -- the members so far do not claim it
 abbrev pub invariant-loop-member : goal.invariant-loop-member
-invariant-loop-member l = find (λ m. not (m.place == l.place) && claims_at (controllers_in (scene_of l.proposal.view)) m.place l.interface) (drop l.member-index l.proposal.order.now)
-    ≡ find (λ m. not (m.place == l.place) && claims_at (controllers_in (scene_of l.proposal.view)) m.place l.interface) l.proposal.order.now
+invariant-loop-member l =
+    find (λ m. not (m.place == l.place) && claims_at (controllers_in (scene_of l.proposal.view)) m.place l.interface)
+    (drop l.member-index l.proposal.order.now)
+    ≡ find (λ m. not (m.place == l.place) && claims_at (controllers_in (scene_of l.proposal.view)) m.place l.interface)
+    l.proposal.order.now

@@ -13,4 +13,5 @@ returns-clause-is_true c = λ scene off on d is.
 pub returns-clause-plan : goal.returns-clause-plan
 returns-clause-plan c = λ scene r name why strict told.
     counts_true scene r.off r.on (record { name = name; cause = why })
-    (strict_refused scene (flat scene.description r.off) (flat scene.description r.on) (record { name = name; cause = why }) (plan_refused scene r strict name why told))
+    (strict_refused scene (flat scene.description r.off) (flat scene.description r.on)
+    (record { name = name; cause = why }) (plan_refused scene r strict name why told))

@@ -10,5 +10,6 @@ pub returns : goal.returns
 returns c =
     let leaving = option_map (λ set. set.now) c.args.leaving in
     c.fault_met.ensures
-    ∙ met_fault (scene_of c.args.view.now) leaving (picked_names c.args.before.now) c.args.name.now c.args.seen (set_of c.args.met.now)
+    ∙ met_fault (scene_of c.args.view.now) leaving (picked_names c.args.before.now) c.args.name.now c.args.seen
+    (set_of c.args.met.now)
     c.requires.seen c.requires.met.set

@@ -13,7 +13,8 @@ returns-in-Some c =
     let scene = scene_of c.args.view.now in
     let fault = list_fault scene (option_map (λ set. set.now) c.args.leaving) in
     let gone : c.sifted.new.dropped.items ≡ faulty fault [] c.args.picks.now =
-    c.in_ok-members.ensures.dropped ∙ ap (λ before. before ++ faulty fault [] c.args.picks.now) c.new-dropped.ensures.items in
+    c.in_ok-members.ensures.dropped
+    ∙ ap (λ before. before ++ faulty fault [] c.args.picks.now) c.new-dropped.ensures.items in
     first_of_faulty fault [] c.args.picks.now ∙ ap first_dropped (sym gone) ∙ sym c.first_dropped.ensures ∙ c.in-Some.is
 
 -- none was dropped
@@ -22,7 +23,8 @@ returns-in-None c =
     let scene = scene_of c.args.view.now in
     let fault = list_fault scene (option_map (λ set. set.now) c.args.leaving) in
     let gone : c.sifted.new.dropped.items ≡ faulty fault [] c.args.picks.now =
-    c.in_ok-members.ensures.dropped ∙ ap (λ before. before ++ faulty fault [] c.args.picks.now) c.new-dropped.ensures.items in
+    c.in_ok-members.ensures.dropped
+    ∙ ap (λ before. before ++ faulty fault [] c.args.picks.now) c.new-dropped.ensures.items in
     let none = ap first_dropped (sym gone) ∙ sym c.first_dropped.ensures ∙ c.in-None.is in (
       first_of_faulty fault [] c.args.picks.now ∙ none,
       c.in_ok-members.ensures.members ∙ ap (loaded_all scene) (none_left_out fault [] c.args.picks.now none),

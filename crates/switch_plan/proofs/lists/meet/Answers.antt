@@ -22,5 +22,6 @@ returns-in_default c =
     let found = sym c.in_default.is ∙ c.requires.seen.found in
     record {
       length = c.requires.before.length;
-      set = c.requires.before.set ∙ met_push (scene_of c.args.view.now) c.args.name.now None (picked_names c.args.before.now) found;
+      set = c.requires.before.set
+          ∙ met_push (scene_of c.args.view.now) c.args.name.now None (picked_names c.args.before.now) found;
     }

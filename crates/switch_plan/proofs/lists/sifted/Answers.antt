@@ -9,9 +9,11 @@ use Rattle.cm_model.specs.declared.cause.Cause.TheVariants as cause
 use Rattle.switch_plan.specs.Calls.Members.{HaveMet}
 use Rattle.switch_plan.specs.Lists.{list_fault}
 use Rattle.switch_plan.specs.View.{scene_of}
-use Rattle.switch_plan.proofs.PickLemmas.{names_more, faultless_dropped, faultless_kept, faulty_dropped, faulty_kept, names_same, faultless_group, faulty_group, dropped_more, found_more}
+use Rattle.switch_plan.proofs.PickLemmas.{names_more, faultless_dropped, faultless_kept, faulty_dropped, faulty_kept}
+use Rattle.switch_plan.proofs.PickLemmas.{names_same, faultless_group, faulty_group, dropped_more, found_more}
 use Rattle.switch_plan.proofs.lists.sifted.Goals as goal
-use Rattle.switch_plan.proofs.lists.sifted.Goals.{in-Some+in_ok-name-in-Some+in_ok-push-in-Some, in-None+in_ok-push_seen-in-None}
+use Rattle.switch_plan.proofs.lists.sifted.Goals.{in-Some+in_ok-name-in-Some+in_ok-push-in-Some}
+use Rattle.switch_plan.proofs.lists.sifted.Goals.{in-None+in_ok-push_seen-in-None}
 
 pub loop-index-preserved-in-Group : goal.loop-index-preserved-in-Group
 loop-index-preserved-in-Group c =
@@ -24,13 +26,16 @@ loop-index-preserved-in-Group c =
     let within = c.loop-index-test.true in
     let fault = list_fault scene (option_map (λ set. set.now) c.args.leaving) in
     record {
-      met = subst (λ names. HaveMet scene names c.loop-index.met) (sym (names_same picks i pick name within is)) c.loop-index.invariant.met;
+      met = subst (λ names. HaveMet scene names c.loop-index.met) (sym (names_same picks i pick name within is))
+          c.loop-index.invariant.met;
       within = c.loop-index.invariant.within;
       members =
-          ap (λ names. c.loop-index.list.items ++ loaded_all scene names) (faultless_group picks i pick name within is fault)
+          ap (λ names. c.loop-index.list.items ++ loaded_all scene names)
+          (faultless_group picks i pick name within is fault)
           ∙ c.loop-index.invariant.members;
       dropped =
-          dropped_more c.loop-index.dropped.items _ (faulty fault (picked_names (take (i + 1) picks)) (drop (i + 1) picks)) _ (with_name name cause.NoGroup)
+          dropped_more c.loop-index.dropped.items _
+          (faulty fault (picked_names (take (i + 1) picks)) (drop (i + 1) picks)) _ (with_name name cause.NoGroup)
           c.in_ok-push-in-Group.ensures.items c.in_ok-no_group-in-Group.ensures
           ∙ ap (λ more. c.loop-index.dropped.items ++ more) (faulty_group picks i pick name within is fault)
           ∙ c.loop-index.invariant.dropped;
@@ -46,7 +51,8 @@ loop-index-preserved c =
     let is : get_or picks i pick ≡ One name = sym c.index-picks-index.is ∙ c.in-One.is in
     let within = c.loop-index-test.true in
     let fault = list_fault scene (option_map (λ set. set.now) c.args.leaving) in
-    let met = subst (λ names. HaveMet scene names c.meet.new.met) (sym (names_more picks i pick name within is)) c.meet.ensures in
+    let met = subst (λ names. HaveMet scene names c.meet.new.met) (sym (names_more picks i pick name within is))
+    c.meet.ensures in
     let names = picked_names (take (i + 1) picks) in
     let rest = drop (i + 1) picks in
     elim c.match-list_fault.branch [
@@ -58,13 +64,16 @@ loop-index-preserved c =
             within = rw w.list-is c.loop-index.invariant.within;
             members =
                 rw w.list-is
-                (ap (λ kept. c.loop-index.list.items ++ loaded_all scene kept) (faultless_dropped picks i pick name within is fault reason some)
+                (ap (λ kept. c.loop-index.list.items ++ loaded_all scene kept)
+                (faultless_dropped picks i pick name within is fault reason some)
                 ∙ c.loop-index.invariant.members);
             dropped =
                 rw w.dropped-is
-                (dropped_more c.loop-index.dropped.items _ (faulty fault names rest) _ (with_name name reason) w.in_ok-push-in-Some.ensures.items
+                (dropped_more c.loop-index.dropped.items _ (faulty fault names rest) _ (with_name name reason)
+                w.in_ok-push-in-Some.ensures.items
                 (ap (λ n. with_name n reason) w.in_ok-name-in-Some.ensures.cases)
-                ∙ ap (λ more. c.loop-index.dropped.items ++ more) (faulty_dropped picks i pick name within is fault reason some)
+                ∙ ap (λ more. c.loop-index.dropped.items ++ more)
+                (faulty_dropped picks i pick name within is fault reason some)
                 ∙ c.loop-index.invariant.dropped);
           }
       | in-None+in_ok-push_seen-in-None w ↦
@@ -74,8 +83,10 @@ loop-index-preserved c =
             within = rw w.list-is w.in_ok-push_seen-in-None.ensures.within;
             members =
                 rw w.list-is
-                (found_more scene c.loop-index.list.items _ name (faultless fault names rest) w.in_ok-push_seen-in-None.ensures.list
-                ∙ ap (λ kept. c.loop-index.list.items ++ loaded_all scene kept) (faultless_kept picks i pick name within is fault none)
+                (found_more scene c.loop-index.list.items _ name (faultless fault names rest)
+                w.in_ok-push_seen-in-None.ensures.list
+                ∙ ap (λ kept. c.loop-index.list.items ++ loaded_all scene kept)
+                (faultless_kept picks i pick name within is fault none)
                 ∙ c.loop-index.invariant.members);
             dropped =
                 rw w.dropped-is

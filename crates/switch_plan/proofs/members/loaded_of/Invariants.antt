@@ -7,4 +7,6 @@ use Rattle.switch_plan.proofs.members.loaded_of.Given as goal
 
 -- the controllers so far have other names
 abbrev pub invariant-loop-seen : goal.invariant-loop-seen
-invariant-loop-seen l = find (λ s. same_name (described (scene_of l.view) s.place).name l.name) (drop l.seen-index l.view.loaded.now) ≡ loaded_of (scene_of l.view) l.name
+invariant-loop-seen l =
+    find (λ s. same_name (described (scene_of l.view) s.place).name l.name) (drop l.seen-index l.view.loaded.now)
+    ≡ loaded_of (scene_of l.view) l.name

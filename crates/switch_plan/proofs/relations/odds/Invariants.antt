@@ -5,4 +5,5 @@ use Rattle.switch_plan.proofs.relations.odds.Given as goal
 
 -- each place so far has its row
 abbrev pub invariant-loop-place : goal.invariant-loop-place
-invariant-loop-place l = l.rows ≡ each_below (λ p. places_below (at_odds l.controllers p) (length l.controllers)) l.place
+invariant-loop-place l =
+    l.rows ≡ each_below (λ p. places_below (at_odds l.controllers p) (length l.controllers)) l.place

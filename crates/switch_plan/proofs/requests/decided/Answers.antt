@@ -14,7 +14,9 @@ returns-then-have_groups c =
     let scene = set_scene c.args.setting.now in
     let request = c.args.request.now in
     subst (λ made. IfOk c.decided_as_flat.result (λ plan. plan ≡ made))
-    (ap₂ (λ off on. planned scene (flat_decided scene request.strict (flat scene.description off) (flat scene.description on))) c.as_slice-off.ensures c.as_slice-on.ensures)
+    (ap₂ (λ off on. planned scene
+    (flat_decided scene request.strict (flat scene.description off) (flat scene.description on))) c.as_slice-off.ensures
+    c.as_slice-on.ensures)
     c.decided_as_flat.ensures
 
 -- lists without a group are flat as they stand
@@ -23,9 +25,11 @@ returns c =
     let scene = set_scene c.args.setting.now in
     let request = c.args.request.now in
     let none : (list_any is_group request.off || list_any is_group request.on) ≡ false =
-    ap₂ (λ off on. list_any is_group off || list_any is_group on) (sym c.as_slice-off.ensures) (sym c.as_slice-on.ensures) ∙ sym c.have_groups.ensures ∙ c.if-have_groups.false in
+    ap₂ (λ off on. list_any is_group off || list_any is_group on) (sym c.as_slice-off.ensures)
+    (sym c.as_slice-on.ensures) ∙ sym c.have_groups.ensures ∙ c.if-have_groups.false in
     let each = or_parts (list_any is_group request.off) (list_any is_group request.on) none in
     subst (λ made. IfOk c.flat_decided.result (λ plan. plan ≡ made))
     (ap₂ (λ off on. planned scene (flat_decided scene request.strict off on))
-    (c.as_slice-off.ensures ∙ sym (flat-without scene.description request.off each.0)) (c.as_slice-on.ensures ∙ sym (flat-without scene.description request.on each.1)))
+    (c.as_slice-off.ensures ∙ sym (flat-without scene.description request.off each.0))
+    (c.as_slice-on.ensures ∙ sym (flat-without scene.description request.on each.1)))
     c.flat_decided.ensures

@@ -11,5 +11,7 @@ returns c =
     let scene = set_scene c.args.setting.now in
     c.in_ok-plan.ensures
     ∙ ap₂ (λ off on. planned scene (flat_decided scene c.args.whole off on))
-    (c.deref.ensures.value ∙ c.in_ok-off.ensures ∙ ap (λ (d : Description). flat d c.args.off.now) c.description-description.ensures.same)
-    (c.deref-2.ensures.value ∙ c.in_ok-on.ensures ∙ ap (λ (d : Description). flat d c.args.on.now) c.description-description.ensures.same)
+    (c.deref.ensures.value ∙ c.in_ok-off.ensures
+    ∙ ap (λ (d : Description). flat d c.args.off.now) c.description-description.ensures.same)
+    (c.deref-2.ensures.value ∙ c.in_ok-on.ensures
+    ∙ ap (λ (d : Description). flat d c.args.on.now) c.description-description.ensures.same)

@@ -12,7 +12,8 @@ decided-requires c =
     record {
       view = c.requires.view;
       leaders = c.requires.leaders;
-      rows = ap length c.requires.leaders ∙ length-each_below (λ p. places_below (λ q. precedes_at cs q p) (length cs)) (length cs);
+      rows = ap length c.requires.leaders
+          ∙ length-each_below (λ p. places_below (λ q. precedes_at cs q p) (length cs)) (length cs);
       active = c.in_ok-active.ensures.set;
       flags = c.in_ok-active.ensures.length;
       relations = c.requires.relations;

@@ -9,13 +9,17 @@ in_order-requires-clause-flags c = c.requires.length ∙ sym c.requires.setting.
 
 pub in_order-requires-clause-within : goal.in_order-requires-clause-within
 in_order-requires-clause-within c =
-    (All-weaker (λ m. m.place < length (controllers_in (scene_of c.args.setting.now.view))) (λ m. m.place < length c.args.setting.now.leaders.now)
+    (All-weaker (λ m. m.place < length (controllers_in (scene_of c.args.setting.now.view)))
+    (λ m. m.place < length c.args.setting.now.leaders.now)
     (λ m below. omega (arith, below, c.requires.setting.rows)) c.args.list.now c.requires.within)
 
 pub returns-clause-within : goal.returns-clause-within
 returns-clause-within c =
-    All-weaker (λ m. m.place < length c.args.setting.now.leaders.now) (λ m. m.place < length (controllers_in (scene_of c.args.setting.now.view)))
-    (λ m below. omega (arith, below, c.requires.setting.rows)) c.in_ok-ordered.ordered.items c.in_ok-ordered.ensures.within
+    All-weaker (λ m. m.place < length c.args.setting.now.leaders.now)
+    (λ m. m.place < length (controllers_in (scene_of c.args.setting.now.view)))
+    (λ m below. omega (arith, below, c.requires.setting.rows)) c.in_ok-ordered.ordered.items
+    c.in_ok-ordered.ensures.within
 
 pub returns-clause-order : goal.returns-clause-order
-returns-clause-order c = c.in_ok-ordered.ensures.order (controllers_in (scene_of c.args.setting.now.view)) c.requires.setting.leaders
+returns-clause-order c =
+    c.in_ok-ordered.ensures.order (controllers_in (scene_of c.args.setting.now.view)) c.requires.setting.leaders

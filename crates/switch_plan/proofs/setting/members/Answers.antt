@@ -8,14 +8,18 @@ use Rattle.switch_plan.proofs.setting.members.Goals as goal
 -- one more
 pub loop-seen-preserved : goal.loop-seen-preserved
 loop-seen-preserved c =
-    kept_more (λ s. set_of c.args.set.now s.place) c.args.view.now.loaded.now c.loop-seen.seen-index _ _ _ _ c.loop-seen-test.true c.has.ensures c.in_ok-push_if.ensures c.loop-seen.invariant
+    kept_more (λ s. set_of c.args.set.now s.place) c.args.view.now.loaded.now c.loop-seen.seen-index _ _ _ _
+    c.loop-seen-test.true c.has.ensures c.in_ok-push_if.ensures c.loop-seen.invariant
 
 -- all of them
 pub returns-clause-within : goal.returns-clause-within
 returns-clause-within c =
-    kept_within (λ s. set_of c.args.set.now s.place) c.args.view.now.loaded.now _ (length (controllers_in (scene_of c.args.view.now))) c.requires
-    (kept_all (λ s. set_of c.args.set.now s.place) c.args.view.now.loaded.now c.loop-seen.seen-index _ (omega (arith, c.loop-seen-test.false)) c.loop-seen.invariant)
+    kept_within (λ s. set_of c.args.set.now s.place) c.args.view.now.loaded.now _
+    (length (controllers_in (scene_of c.args.view.now))) c.requires
+    (kept_all (λ s. set_of c.args.set.now s.place) c.args.view.now.loaded.now c.loop-seen.seen-index _
+    (omega (arith, c.loop-seen-test.false)) c.loop-seen.invariant)
 
 pub returns-clause-members : goal.returns-clause-members
 returns-clause-members c =
-    kept_all (λ s. set_of c.args.set.now s.place) c.args.view.now.loaded.now c.loop-seen.seen-index _ (omega (arith, c.loop-seen-test.false)) c.loop-seen.invariant
+    kept_all (λ s. set_of c.args.set.now s.place) c.args.view.now.loaded.now c.loop-seen.seen-index _
+    (omega (arith, c.loop-seen-test.false)) c.loop-seen.invariant

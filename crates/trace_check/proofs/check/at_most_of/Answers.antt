@@ -16,7 +16,8 @@ AreCounted b = b ≡ counted_by (blanks_of b)
 
 pub loop-row-init : goal.loop-row-init
 loop-row-init c = (
-  ap (λ (b : Blanks). lessened c.args.most c.args.counts.now b (map (λ row. row.1) c.args.kinds.now)) c.of_each-few.ensures
+  ap (λ (b : Blanks). lessened c.args.most c.args.counts.now b (map (λ row. row.1) c.args.kinds.now))
+      c.of_each-few.ensures
       ∙ none_lessened c.args.most c.args.counts.now (map (λ row. row.1) c.args.kinds.now),
   subst AreCounted (sym c.of_each-few.ensures) (counted_again (λ kind. 0)),
 )

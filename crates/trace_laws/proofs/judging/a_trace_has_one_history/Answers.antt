@@ -6,4 +6,5 @@ use Rattle.trace_laws.proofs.judging.a_trace_has_one_history.Goals as goal
 pub returns : goal.returns
 unfolding output
 returns c = λ document blanks text one other valid rules first second.
-    one_history document blanks rules (nothing_way document rules) (λ history legal way. lines_of_history document blanks history valid rules legal way) text one other first second
+    one_history document blanks rules (nothing_way document rules)
+    (λ history legal way. lines_of_history document blanks history valid rules legal way) text one other first second

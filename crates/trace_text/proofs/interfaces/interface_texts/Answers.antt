@@ -8,5 +8,15 @@ use Rattle.trace_text.proofs.interfaces.interface_texts.Goals as goal
 -- the three parts are all interfaces
 pub returns : goal.returns
 returns c =
-    rw (c.in_ok-push_references.ensures, c.in_ok-push_components-2.ensures, c.in_ok-push_components.ensures, c.new-texts.ensures.items, c.as_slice-components.ensures, c.as_slice.ensures, all_interfaces c.args.description.now)
-    (append_assoc (map interface_text (states_of c.args.description.now.components)) (map interface_text (commands_of c.args.description.now.components)) (map interface_text (references_of c.args.description.now.controllers)))
+    rw (
+      c.in_ok-push_references.ensures,
+      c.in_ok-push_components-2.ensures,
+      c.in_ok-push_components.ensures,
+      c.new-texts.ensures.items,
+      c.as_slice-components.ensures,
+      c.as_slice.ensures,
+      all_interfaces c.args.description.now,
+    )
+    (append_assoc (map interface_text (states_of c.args.description.now.components))
+    (map interface_text (commands_of c.args.description.now.components))
+    (map interface_text (references_of c.args.description.now.controllers)))

@@ -6,4 +6,7 @@ use Rattle.trace_text.proofs.interfaces.push_joints.Given as goal
 
 -- the texts so far, and those of what is left, are all texts
 abbrev pub invariant-loop-joint : goal.invariant-loop-joint
-invariant-loop-joint l = map string_bytes l.texts.items ++ map interface_text (flat_map (names_on l.is_command) (drop l.joint-index l.joints)) ≡ map string_bytes l.fn.texts.items ++ map interface_text (flat_map (names_on l.is_command) l.joints)
+invariant-loop-joint l =
+    map string_bytes l.texts.items
+    ++ map interface_text (flat_map (names_on l.is_command) (drop l.joint-index l.joints))
+    ≡ map string_bytes l.fn.texts.items ++ map interface_text (flat_map (names_on l.is_command) l.joints)

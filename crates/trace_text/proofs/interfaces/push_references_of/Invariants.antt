@@ -5,4 +5,7 @@ use Rattle.trace_text.proofs.interfaces.push_references_of.Given as goal
 
 -- the texts so far, and those of what is left, are all texts
 abbrev pub invariant-loop-interface : goal.invariant-loop-interface
-invariant-loop-interface l = map string_bytes l.texts.items ++ map interface_text (map (reference_for l.controller) (drop l.interface-index l.interfaces)) ≡ map string_bytes l.fn.texts.items ++ map interface_text (map (reference_for l.controller) l.interfaces)
+invariant-loop-interface l =
+    map string_bytes l.texts.items
+    ++ map interface_text (map (reference_for l.controller) (drop l.interface-index l.interfaces))
+    ≡ map string_bytes l.fn.texts.items ++ map interface_text (map (reference_for l.controller) l.interfaces)

@@ -4,4 +4,6 @@ use Rattle.trace_text.proofs.names.body_heads.Given as goal
 
 -- the texts so far, and those of what is left, are all texts
 abbrev pub invariant-loop-name : goal.invariant-loop-name
-invariant-loop-name l = map string_bytes l.heads.items ++ map body_head (map (λ r. r.now) (drop l.name-index l.names)) ≡ map body_head (map (λ r. r.now) l.names)
+invariant-loop-name l =
+    map string_bytes l.heads.items ++ map body_head (map (λ r. r.now) (drop l.name-index l.names))
+    ≡ map body_head (map (λ r. r.now) l.names)

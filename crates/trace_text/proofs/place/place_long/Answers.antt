@@ -10,7 +10,8 @@ loop-done-preserved c =
     let done = c.loop-done.done in
     let both = Placed-then c.loop-done.invariant.1 (rw (take_rest text done) at c.place_front.ensures) in
     let whole = length-take-le (done + 32) text (search rules) in
-    let end : c.place_front.result ≡ c.args.at + (done + 32) = omega (arith, both.moved, ap length (take-add done 32 text), whole) in
+    let end : c.place_front.result ≡ c.args.at + (done + 32) =
+    omega (arith, both.moved, ap length (take-add done 32 text), whole) in
     (search rules, rw (take-add done 32 text, ← end) both)
 
 -- and the rest by its ends
@@ -18,4 +19,5 @@ pub returns : goal.returns
 returns c =
     let text = c.args.text.now in
     let done = c.loop-done.done in
-    rw (take-append-drop done text) at (Placed-then c.loop-done.invariant.1 (rw (take_rest text done) at c.place_ends.ensures))
+    rw (take-append-drop done text) at (Placed-then c.loop-done.invariant.1
+    (rw (take_rest text done) at c.place_ends.ensures))

@@ -6,6 +6,8 @@ use Rattle.trace_text.proofs.records.push_bodies.Given as goal
 -- the text so far, and the items that are left, are all items
 abbrev pub invariant-loop-place : goal.invariant-loop-place
 invariant-loop-place l = record {
-  text : l.text ++ joined_on l.started (body_texts l.names l.place (drop l.place l.bodies)) ≡ l.fn.text ++ joined_on l.fn.started (body_texts l.names 0 l.bodies);
-  started : has_started l.started (body_texts l.names l.place (drop l.place l.bodies)) ≡ has_started l.fn.started (body_texts l.names 0 l.bodies);
+  text : l.text ++ joined_on l.started (body_texts l.names l.place (drop l.place l.bodies))
+      ≡ l.fn.text ++ joined_on l.fn.started (body_texts l.names 0 l.bodies);
+  started : has_started l.started (body_texts l.names l.place (drop l.place l.bodies))
+      ≡ has_started l.fn.started (body_texts l.names 0 l.bodies);
 }

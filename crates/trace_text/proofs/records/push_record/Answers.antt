@@ -8,4 +8,5 @@ returns-then-stops c =
     let rans = rw c.ran.ensures at c.in_ok-rans.ensures in
     let bodies = rw c.bodies.ensures at c.in_ok-bodies.ensures in
     let stops = rw (c.stops.ensures, c.if-stops.true) at c.in_ok-stops.ensures in
-    Adds-some _ _ _ (Adds-then _ _ _ _ _ _ _ _ (Adds-then _ _ _ _ _ _ _ _ (Adds-then _ _ _ _ _ _ _ _ failures rans) bodies) stops)
+    Adds-some _ _ _
+    (Adds-then _ _ _ _ _ _ _ _ (Adds-then _ _ _ _ _ _ _ _ (Adds-then _ _ _ _ _ _ _ _ failures rans) bodies) stops)

@@ -9,7 +9,8 @@ loop-entry-preserved g c =
     let line = line_text c.args.sessions.now c.args.names.now in
     let before = c.loop-entry.invariant in
     record {
-      so_far = texts_taken line c.args.history.now c.loop-entry.entry-index c.entry-item.result _ _ _ c.loop-entry-test.true before.so_far
+      so_far = texts_taken line c.args.history.now c.loop-entry.entry-index c.entry-item.result _ _ _
+          c.loop-entry-test.true before.so_far
           (rw (← c.entry-item.is) (rw before.names at c.in_ok-write_line.ensures.ok));
       flushed = c.in_ok-write_line.ensures.stays.0 ∙ before.flushed;
       uncounted = c.in_ok-write_line.ensures.fault.uncounted (λ failed. cc) ∙ before.uncounted;
@@ -20,5 +21,6 @@ pub returns-in_err-write_line-clause-err : goal.returns-in_err-write_line-clause
 returns-in_err-write_line-clause-err g c =
     let p = err_from_is_err_and c.from_residual.result c.from_residual.ensures.1 in
     let line = line_text c.args.sessions.now c.args.names.now in
-    rw p.1 (texts_cut line c.args.history.now c.loop-entry.entry-index c.entry-item.result _ _ _ c.loop-entry-test.true c.loop-entry.invariant.so_far
+    rw p.1 (texts_cut line c.args.history.now c.loop-entry.entry-index c.entry-item.result _ _ _ c.loop-entry-test.true
+    c.loop-entry.invariant.so_far
     (rw (← c.entry-item.is) (rw c.loop-entry.invariant.names at c.in_err-write_line.ensures.err)))

@@ -5,4 +5,5 @@ use Rattle.chain_order.proofs.links.Links.to_leaders.Given as goal
 
 -- each place so far has its row
 abbrev pub invariant-loop-place : goal.invariant-loop-place
-invariant-loop-place l = l.rows ≡ each_below (λ p. places_below (λ q. precedes_at l.controllers q p) (length l.controllers)) l.place
+invariant-loop-place l =
+    l.rows ≡ each_below (λ p. places_below (λ q. precedes_at l.controllers q p) (length l.controllers)) l.place

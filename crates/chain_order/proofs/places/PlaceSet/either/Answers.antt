@@ -7,10 +7,14 @@ use Rattle.chain_order.proofs.places.PlaceSet.either.Goals as goal
 
 pub returns-clause-length : goal.returns-clause-length
 returns-clause-length c =
-    flags-long c.loop-place.flags.items (λ p. set_of c.args.self.now p || set_of c.args.other.now p) c.loop-place.place (length c.args.self.now) c.loop-place.invariant
+    flags-long c.loop-place.flags.items (λ p. set_of c.args.self.now p || set_of c.args.other.now p) c.loop-place.place
+    (length c.args.self.now) c.loop-place.invariant
     (omega (arith, c.loop-place-test.false, c.loop-place.auto.place-end, c.len-count.ensures))
 
 pub returns-clause-set : goal.returns-clause-set
 returns-clause-set c =
-    flags-set c.loop-place.flags.items (λ p. set_of c.args.self.now p || set_of c.args.other.now p) c.loop-place.place (length c.args.self.now) c.loop-place.invariant
-    (omega (arith, c.loop-place-test.false, c.loop-place.auto.place-end, c.len-count.ensures)) (λ p above. or_from _ _ (set_of-past c.args.self.now p above) (set_of-past c.args.other.now p (omega (arith, above, c.requires))))
+    flags-set c.loop-place.flags.items (λ p. set_of c.args.self.now p || set_of c.args.other.now p) c.loop-place.place
+    (length c.args.self.now) c.loop-place.invariant
+    (omega (arith, c.loop-place-test.false, c.loop-place.auto.place-end, c.len-count.ensures))
+    (λ p above. or_from _ _ (set_of-past c.args.self.now p above)
+    (set_of-past c.args.other.now p (omega (arith, above, c.requires))))

@@ -7,4 +7,5 @@ use Rattle.cm_desk.proofs.desk.Desk.is_right.Goals as goal
 pub returns : goal.returns
 returns g c =
     let a = c.self.inside in
-    subst IsRight c.self.view_is (right_of a.works.description a.at_boot a.works.sessions a.history.items a.works _ _ c.self.invariant.0)
+    subst IsRight c.self.view_is
+    (right_of a.works.description a.at_boot a.works.sessions a.history.items a.works _ _ c.self.invariant.0)

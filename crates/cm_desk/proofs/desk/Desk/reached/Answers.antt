@@ -10,23 +10,29 @@ use Rattle.cm_desk.proofs.desk.Desk.reached.Goals.{After-push_reserved}
 
 -- the call is a step where so many cycles have ended, and has one entry
 entry : (g : Over) (c : After-push_reserved g)
-    → Recorded c.self.inside.at_boot c.self.inside.works c.self.inside.works c.self.inside.history.items c.push_reserved.new.self.items c.args.who (Await c.args.cycles) Done
+    → Recorded c.self.inside.at_boot c.self.inside.works c.self.inside.works c.self.inside.history.items
+    c.push_reserved.new.self.items c.args.who (Await c.args.cycles) Done
     (vec_capacity c.push_reserved.new.self) (vec_capacity c.self.inside.boxes)
 entry g c =
     let a = c.self.inside in
     let call = Await c.args.cycles in
     let grown : c.push_reserved.new.self.items ≡ with_entry a.history.items c.args.who call Done =
     rw (c.push_reserved.ensures.items, c.make_room.ensures.history.0, c.in_ok-kept.ensures) refl in
-    let stepped = await_step a.works c.args.who c.args.cycles (rw (← c.self.view_is) at c.requires.session) (sym c.is_reached.ensures ∙ c.if-not-is_reached.false) in
-    let room : length a.history.items + 1 + owed a.works ≤ vec_capacity c.push_reserved.new.self = omega (arith, c.push_reserved.ensures.capacity, c.in_ok-make_room.ensures.room a.works) in
+    let stepped =
+    await_step a.works c.args.who c.args.cycles (rw (← c.self.view_is) at c.requires.session)
+    (sym c.is_reached.ensures ∙ c.if-not-is_reached.false) in
+    let room : length a.history.items + 1 + owed a.works ≤ vec_capacity c.push_reserved.new.self =
+    omega (arith, c.push_reserved.ensures.capacity, c.in_ok-make_room.ensures.room a.works) in
     recorded _ _ _ _ _ _ _ _ _ _ _ _ c.self.invariant.0 stepped grown
-    (few_after a.works a.history.items _ c.args.who call Done c.in_ok-make_room.ensures.few grown) (room_after a.works a.history.items _ c.args.who call Done _ room grown) c.self.invariant.0.places
+    (few_after a.works a.history.items _ c.args.who call Done c.in_ok-make_room.ensures.few grown)
+    (room_after a.works a.history.items _ c.args.who call Done _ room grown) c.self.invariant.0.places
 
 -- until then it cannot be made
 pub returns-then-not-is_reached-clause-made : goal.returns-then-not-is_reached-clause-made
 returns-then-not-is_reached-clause-made g c = (
   rw (← c.self.view_is, c.self.invariant.0.ends)
-      (await_waits c.self.inside.works c.args.who c.args.cycles (rw (← c.self.view_is) at c.requires.session) (sym c.is_reached.ensures ∙ c.if-not-is_reached.true)),
+      (await_waits c.self.inside.works c.args.who c.args.cycles (rw (← c.self.view_is) at c.requires.session)
+      (sym c.is_reached.ensures ∙ c.if-not-is_reached.true)),
   refl,
 )
 

@@ -11,7 +11,8 @@ use Rattle.cm_desk.proofs.desk.Desk.told.Goals.{After-push_reserved}
 
 -- the call is a step where the request is decided, and has one entry
 entry : (g : Over) (c : After-push_reserved g)
-    → Recorded c.self.inside.at_boot c.self.inside.works c.self.inside.works c.self.inside.history.items c.push_reserved.new.self.items c.args.who (Told c.args.ticket)
+    → Recorded c.self.inside.at_boot c.self.inside.works c.self.inside.works c.self.inside.history.items
+    c.push_reserved.new.self.items c.args.who (Told c.args.ticket)
     (Outcome c.in-Some.outcome.now) (vec_capacity c.push_reserved.new.self) (vec_capacity c.self.inside.boxes)
 entry g c =
     let a = c.self.inside in
@@ -21,15 +22,18 @@ entry g c =
     let grown : c.push_reserved.new.self.items ≡ with_entry a.history.items c.args.who call (Outcome o) =
     rw (c.push_reserved.ensures.items, c.make_room.ensures.history.0, c.in_ok-entry.ensures) refl in
     let stepped = told_step a.works c.args.who c.args.ticket o (rw (← c.self.view_is) at c.requires.session) told in
-    let room : length a.history.items + 1 + owed a.works ≤ vec_capacity c.push_reserved.new.self = omega (arith, c.push_reserved.ensures.capacity, c.in_ok-make_room.ensures.room a.works) in
+    let room : length a.history.items + 1 + owed a.works ≤ vec_capacity c.push_reserved.new.self =
+    omega (arith, c.push_reserved.ensures.capacity, c.in_ok-make_room.ensures.room a.works) in
     recorded _ _ _ _ _ _ _ _ _ _ _ _ c.self.invariant.0 stepped grown
-    (few_after a.works a.history.items _ c.args.who call (Outcome o) c.in_ok-make_room.ensures.few grown) (room_after a.works a.history.items _ c.args.who call (Outcome o) _ room grown) c.self.invariant.0.places
+    (few_after a.works a.history.items _ c.args.who call (Outcome o) c.in_ok-make_room.ensures.few grown)
+    (room_after a.works a.history.items _ c.args.who call (Outcome o) _ room grown) c.self.invariant.0.places
 
 -- until then it cannot be made
 pub returns-in_default-clause-made : goal.returns-in_default-clause-made
 returns-in_default-clause-made g c = (
   rw (← c.self.view_is, c.self.invariant.0.ends)
-      (told_waits c.self.inside.works c.args.who c.args.ticket (rw (← c.self.view_is) at c.requires.session) (sym c.in_default.ensures)),
+      (told_waits c.self.inside.works c.args.who c.args.ticket (rw (← c.self.view_is) at c.requires.session)
+      (sym c.in_default.ensures)),
   refl,
 )
 

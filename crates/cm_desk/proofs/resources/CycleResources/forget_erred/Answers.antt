@@ -19,12 +19,18 @@ returns c =
     record {
       resources = rw away refl;
       home = record {
-        robot = ap (λ (k : CycleContext). k.robot) taken ∙ left.robot ∙ sym (ap (λ (b : CycleResources). b.robot.value) away);
-        ending = ap (λ (k : CycleContext). k.ending) taken ∙ left.ending ∙ sym (ap (λ (b : CycleResources). b.ending.value) away);
-        order = ap (λ (k : CycleContext). k.order.items) taken ∙ left.order ∙ sym (ap (λ (b : CycleResources). b.members.value.items) away);
+        robot = ap (λ (k : CycleContext). k.robot) taken ∙ left.robot
+            ∙ sym (ap (λ (b : CycleResources). b.robot.value) away);
+        ending = ap (λ (k : CycleContext). k.ending) taken ∙ left.ending
+            ∙ sym (ap (λ (b : CycleResources). b.ending.value) away);
+        order = ap (λ (k : CycleContext). k.order.items) taken ∙ left.order
+            ∙ sym (ap (λ (b : CycleResources). b.members.value.items) away);
         erred = sym erred;
-        next_lists = ap (λ (k : CycleContext). k.lists) taken ∙ left.next_lists ∙ sym (ap (λ (b : CycleResources). b.next_lists.value) away);
-        told = subst (λ (o : Option RecordRoom). IfSome o TellsNothing) (sym (ap (λ (k : CycleContext). k.room) taken)) left.told;
+        next_lists =
+            ap (λ (k : CycleContext). k.lists) taken ∙ left.next_lists
+            ∙ sym (ap (λ (b : CycleResources). b.next_lists.value) away);
+        told = subst (λ (o : Option RecordRoom). IfSome o TellsNothing) (sym (ap (λ (k : CycleContext). k.room) taken))
+            left.told;
       };
       none_erred = erred ∙ c.empty.ensures.items;
     }

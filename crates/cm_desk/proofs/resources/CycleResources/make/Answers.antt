@@ -12,14 +12,16 @@ pub returns : goal.returns
 returns c =
     let d = c.args.checked.now in
     let start = c.in_ok-context.ensures in
-    let wired : IsRobotAtStart d c.deref.result.now.robot = subst (λ (k : CycleContext). IsRobotAtStart d k.robot) (sym c.deref.ensures) start.robot in
+    let wired : IsRobotAtStart d c.deref.result.now.robot =
+    subst (λ (k : CycleContext). IsRobotAtStart d k.robot) (sym c.deref.ensures) start.robot in
     let robot = c.of.ensures ∙ ap (λ (k : CycleContext). k.robot) c.deref-2.ensures in
     let ending = c.of-2.ensures ∙ ap (λ (k : CycleContext). k.ending) c.deref-3.ensures in
     let members = ap (λ x. x.items) (c.of-4.ensures ∙ ap (λ (k : CycleContext). k.order) c.deref-4.ensures) in
     let erred = ap (λ x. x.items) (c.of-5.ensures ∙ ap (λ (k : CycleContext). k.erred) c.deref-5.ensures) in
     let lists = c.of-6.ensures ∙ ap (λ (k : CycleContext). k.lists) c.deref-6.ensures in record {
       hardware = λ blanks sessions.
-          subst (λ (w : Wired). IsHardwareOf (boot d blanks sessions) w) (sym (ap (λ (g : Robot). g.hardware) robot)) (start.robot.hardware blanks sessions);
+          subst (λ (w : Wired). IsHardwareOf (boot d blanks sessions) w) (sym (ap (λ (g : Robot). g.hardware) robot))
+          (start.robot.hardware blanks sessions);
       placed = ap (λ (g : Robot). g.places) robot ∙ start.robot.placed;
       related = ap (λ (g : Robot). g.relations) robot ∙ start.robot.related;
       timed = ap (λ (g : Robot). g.period_us) robot ∙ start.robot.timed;
@@ -44,7 +46,9 @@ returns c =
         shown = λ none. cc;
         told = λ yes. cc;
         next_lines = λ down.
-            subst (HasLines d) (sym lists) (lines_at_start d c.in_ok-context.context.value.robot.hardware c.in_ok-context.context.value.lists start.robot.hardware start.lines);
+            subst (HasLines d) (sym lists)
+            (lines_at_start d c.in_ok-context.context.value.robot.hardware c.in_ok-context.context.value.lists
+            start.robot.hardware start.lines);
         stands = λ aloft. cc;
         box_places = λ aloft. cc;
       };

@@ -12,9 +12,12 @@ returns c =
     let same = c.deref_mut.ensures.value in
     let left = c.unload.ensures.resources in
     let swapped : c.deref_mut-2.result.now ≡ record c.args.context.value { lists = c.args.self.now.lists } =
-    c.deref_mut-2.ensures.value ∙ c.unload.ensures.context ∙ ap (λ (k : CycleContext). record k { lists = c.args.self.now.lists }) same in
-    let kept : c.place_erred.new.context ≡ record c.args.context.value { lists = c.args.self.now.lists; erred = c.place_erred.new.context.erred } =
-    c.place_erred.ensures.context ∙ ap (λ (k : CycleContext). record k { erred = c.place_erred.new.context.erred }) swapped in
+    c.deref_mut-2.ensures.value ∙ c.unload.ensures.context
+    ∙ ap (λ (k : CycleContext). record k { lists = c.args.self.now.lists }) same in
+    let kept : c.place_erred.new.context
+    ≡ record c.args.context.value { lists = c.args.self.now.lists; erred = c.place_erred.new.context.erred } =
+    c.place_erred.ensures.context
+    ∙ ap (λ (k : CycleContext). record k { erred = c.place_erred.new.context.erred }) swapped in
     let robot = c.of.ensures ∙ ap (λ (k : CycleContext). k.robot) c.deref.ensures in
     let ending = c.of-2.ensures ∙ ap (λ (k : CycleContext). k.ending) c.deref-2.ensures in
     let members = ap (λ x. x.items) (c.of-3.ensures ∙ ap (λ (k : CycleContext). k.order) c.deref-3.ensures) in
@@ -28,12 +31,14 @@ returns c =
         order = sym members;
         erred = sym erred;
         next_lists = sym lists;
-        told = subst (λ (o : Option RecordRoom). IfSome o TellsNothing) (sym (ap (λ (k : CycleContext). k.room) kept)) c.requires;
+        told = subst (λ (o : Option RecordRoom). IfSome o TellsNothing) (sym (ap (λ (k : CycleContext). k.room) kept))
+            c.requires;
       };
       no_mail = rw (c.of-6.ensures) c.empty.ensures.items;
       workspaces = ap (λ (b : CycleResources). b.buffers.workspaces) left;
       order = members ∙ ap (λ (k : CycleContext). k.order.items) kept;
-      erred = erred ∙ c.place_erred.ensures.erred ∙ ap (λ (k : CycleContext). map (place_among k.order.items) k.erred.items) swapped;
+      erred = erred ∙ c.place_erred.ensures.erred
+          ∙ ap (λ (k : CycleContext). map (place_among k.order.items) k.erred.items) swapped;
       lists = ap (λ (b : CycleResources). b.lists) left ∙ ap (λ (k : CycleContext). k.lists) same;
       told = ap (λ (b : CycleResources). b.told) left ∙ ap (λ (k : CycleContext). not k.has_failed) same;
       next_lists = lists ∙ ap (λ (k : CycleContext). k.lists) kept;

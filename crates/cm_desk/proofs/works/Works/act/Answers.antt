@@ -5,7 +5,12 @@ pub switch-requires-clause-can : goal.switch-requires-clause-can
 switch-requires-clause-can g c = (c.requires.can.0, rw (c.in-Switch.is) at c.requires.can.1.act)
 
 pub move_component-requires : goal.move_component-requires
-move_component-requires g c = record { down = c.requires.down; can = (c.requires.can.0, (rw (c.in-Move.is) at c.requires.can.1.act, c.requires.can.1.steady)) }
+move_component-requires g c =
+    record {
+      down = c.requires.down;
+      can =
+          (c.requires.can.0, (rw (c.in-Move.is) at c.requires.can.1.act, c.requires.can.1.steady));
+    }
 
 pub returns-in-Nothing : goal.returns-in-Nothing
 returns-in-Nothing g c = λ after can. sym (rw (c.in-Nothing.is) at can.act)

@@ -52,7 +52,8 @@ decide_all-requires-clause-concluded g c =
     let left = c.requires.can.1 in
     let can = subst (λ (t : State). CanAct t (after_fallbacks s) c.in-Some.conclusion.act) (sym left.emptied)
     (stood_with s s.fallbacks c.in-Some.conclusion left.steady (rw (c.in-Some.is) at left.first)) in
-    subst (λ (t : State). AreConclusionsOf t (waiting t) c.args.conclusions.items) (sym (c.act.ensures (after_fallbacks s) can)) left.conclusions
+    subst (λ (t : State). AreConclusionsOf t (waiting t) c.args.conclusions.items)
+    (sym (c.act.ensures (after_fallbacks s) can)) left.conclusions
 
 pub returns-in-Some : goal.returns-in-Some
 returns-in-Some g c = λ s left.
@@ -75,9 +76,11 @@ decide_all-requires-in-None-clause-concluded g c =
     let s = c.requires.can.0 in
     let left = c.requires.can.1 in
     subst (λ (t : State). AreConclusionsOf t (waiting t) c.args.conclusions.items)
-    (sym (stood_without s c.args.self.now s.fallbacks left.emptied refl (rw (c.in-None.is) at left.first))) left.conclusions
+    (sym (stood_without s c.args.self.now s.fallbacks left.emptied refl (rw (c.in-None.is) at left.first)))
+    left.conclusions
 
 pub returns-in-None : goal.returns-in-None
 returns-in-None g c = λ s left.
     c.decide_all-in-None.ensures
-    ∙ ap (λ (t : State). all_concluded t (waiting t)) (stood_without s c.args.self.now s.fallbacks left.emptied refl (rw (c.in-None.is) at left.first))
+    ∙ ap (λ (t : State). all_concluded t (waiting t))
+    (stood_without s c.args.self.now s.fallbacks left.emptied refl (rw (c.in-None.is) at left.first))

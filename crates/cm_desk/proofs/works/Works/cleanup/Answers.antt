@@ -14,7 +14,8 @@ cleanup-requires g c =
     let a = c.self.inside in
     let l = c.index-as_slice-index.result in
     let within : c.in-Some.index < length a.slots.loaded = rw (← c.self.view_is) at c.in-Some.ensures.within in
-    let here = stands_here a.checked a.slots.loaded c.in-Some.index l c.self.invariant.described within (rw (c.as_slice.ensures) at c.index-as_slice-index.is) in
+    let here = stands_here a.checked a.slots.loaded c.in-Some.index l c.self.invariant.described within
+    (rw (c.as_slice.ensures) at c.index-as_slice-index.is) in
     let inactive : is_inactive l ≡ true = sym c.is_inactive.ensures.inactive ∙ c.if-not-is_inactive.false in
     rw (here.0) (idle_where_inactive l inactive)
 
@@ -25,12 +26,15 @@ invariant_of-self g c =
     let s = state_of a in
     let l = c.index-as_slice-index.result in
     let within : c.in-Some.index < length a.slots.loaded = rw (← c.self.view_is) at c.in-Some.ensures.within in
-    let here = stands_here a.checked a.slots.loaded c.in-Some.index l c.self.invariant.described within (rw (c.as_slice.ensures) at c.index-as_slice-index.is) in
+    let here = stands_here a.checked a.slots.loaded c.in-Some.index l c.self.invariant.described within
+    (rw (c.as_slice.ensures) at c.index-as_slice-index.is) in
     let inactive : is_inactive l ≡ true = sym c.is_inactive.ensures.inactive ∙ c.if-not-is_inactive.false in
     let idle : is_active l ≡ false = idle_of_inactive l inactive in
     rw (c.cleanup.ensures l here.0)
-    (kept_after_change s a.names.items (base_in a) a.active_set c.in-Some.index l (after_cleanup l) c.self.invariant here.0 here.1 (λ no. cc)
-    (record { serial = refl; place = refl; active = sym idle }) (fit_cleanup s c.in-Some.index l here.0 c.self.invariant.fit idle))
+    (kept_after_change s a.names.items (base_in a) a.active_set c.in-Some.index l (after_cleanup l) c.self.invariant
+    here.0 here.1 (λ no. cc)
+    (record { serial = refl; place = refl; active = sym idle })
+    (fit_cleanup s c.in-Some.index l here.0 c.self.invariant.fit idle))
 
 pub returns : goal.returns
 returns g c =
@@ -38,8 +42,11 @@ returns g c =
     let s = state_of a in
     let l = c.index-as_slice-index.result in
     let within : c.in-Some.index < length a.slots.loaded = rw (← c.self.view_is) at c.in-Some.ensures.within in
-    let here = stands_here a.checked a.slots.loaded c.in-Some.index l c.self.invariant.described within (rw (c.as_slice.ensures) at c.index-as_slice-index.is) in
+    let here = stands_here a.checked a.slots.loaded c.in-Some.index l c.self.invariant.described within
+    (rw (c.as_slice.ensures) at c.index-as_slice-index.is) in
     let inactive : is_inactive l ≡ true = sym c.is_inactive.ensures.inactive ∙ c.if-not-is_inactive.false in
     rw (← c.self.view_is, c.cleanup.ensures l here.0)
-    (changed_there s (record s { loaded = slice_set a.slots.loaded c.in-Some.index (after_cleanup l) }) c.args.name.now c.in-Some.index l (after_cleanup l)
-    cleanup_refusals after_cleanup (rw (← c.self.view_is) at c.in-Some.ensures.found) here.0 (rw inactive refl) refl refl)
+    (changed_there s (record s { loaded = slice_set a.slots.loaded c.in-Some.index (after_cleanup l) }) c.args.name.now
+    c.in-Some.index l (after_cleanup l)
+    cleanup_refusals after_cleanup (rw (← c.self.view_is) at c.in-Some.ensures.found) here.0 (rw inactive refl) refl
+    refl)

@@ -20,13 +20,17 @@ invariant_of-self g c =
 pub returns-clause-closed : goal.returns-clause-closed
 returns-clause-closed g c =
     let a = c.self.inside in
-    let s : Bool → State = λ closed. state_with a.checked a.blanks a.sessions a.loads a.slots a.requests (base_in a) a.ended closed in
+    let s : Bool
+    → State = λ closed. state_with a.checked a.blanks a.sessions a.loads a.slots a.requests (base_in a) a.ended
+    closed in
     let open_before : a.closed ≡ false = open_where (s a.closed) (rw (← c.self.view_is) at c.requires) in
     rw (← c.self.view_is) (c.close_all.ensures.left (s a.closed) ∙ ap close_effect (ap s (sym open_before)))
 
 pub returns-clause-told : goal.returns-clause-told
 returns-clause-told g c =
     let a = c.self.inside in
-    let s : Bool → State = λ closed. state_with a.checked a.blanks a.sessions a.loads a.slots a.requests (base_in a) a.ended closed in
+    let s : Bool
+    → State = λ closed. state_with a.checked a.blanks a.sessions a.loads a.slots a.requests (base_in a) a.ended
+    closed in
     let open_before : a.closed ≡ false = open_where (s a.closed) (rw (← c.self.view_is) at c.requires) in
     rw (← c.self.view_is) (c.close_all.ensures.told (s a.closed) ∙ ap close_reply (ap s (sym open_before)))

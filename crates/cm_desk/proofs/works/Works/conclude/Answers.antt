@@ -19,7 +19,10 @@ decide-requires g c =
     let a = c.self.inside in
     let t = state_of a in
     let p = c.requires.next in
-    still_undecided c.args.self.now t p.0 p.1 p.2.first (c.self.view_is ∙ c.act.ensures (concluded c.args.self.now p.0).state (can_act c.args.self.now p.0 p.1 c.args.conclusion c.requires.steady p.2))
+    still_undecided c.args.self.now t p.0 p.1 p.2.first
+    (c.self.view_is
+    ∙ c.act.ensures (concluded c.args.self.now p.0).state
+    (can_act c.args.self.now p.0 p.1 c.args.conclusion c.requires.steady p.2))
 
 -- the outcomes alone change then
 pub invariant_of-self : goal.invariant_of-self
@@ -33,5 +36,9 @@ pub returns : goal.returns
 returns g c = λ asked later next.
     let a = c.self.inside in
     let t = state_of a in
-    ap (λ (all : Asked). state_with a.checked a.blanks a.sessions a.loads a.slots all (base_in a) a.ended a.closed) c.decide.ensures
-    ∙ concluded_so c.args.self.now t asked c.args.conclusion (c.self.view_is ∙ c.act.ensures (concluded c.args.self.now asked).state (can_act c.args.self.now asked later c.args.conclusion c.requires.steady next)) next.concluded.outcome
+    ap (λ (all : Asked). state_with a.checked a.blanks a.sessions a.loads a.slots all (base_in a) a.ended a.closed)
+    c.decide.ensures
+    ∙ concluded_so c.args.self.now t asked c.args.conclusion
+    (c.self.view_is
+    ∙ c.act.ensures (concluded c.args.self.now asked).state
+    (can_act c.args.self.now asked later c.args.conclusion c.requires.steady next)) next.concluded.outcome

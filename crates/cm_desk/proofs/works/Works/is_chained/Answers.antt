@@ -15,12 +15,14 @@ is_led_by-requires-clause-leaders g c =
     (c.leaders.ensures
     ∙ ap (λ (k : CycleContext). k.robot.relations.leaders) c.deref.ensures
     ∙ ap (λ (w : Related). w.leaders)
-    (rw (ap (λ (h : Robot). h.relations) (sym (rw (c.in-Some.is) at c.self.invariant.based.home).robot)) at c.self.invariant.worked_out.related))
+    (rw (ap (λ (h : Robot). h.relations)
+    (sym (rw (c.in-Some.is) at c.self.invariant.based.home).robot)) at c.self.invariant.worked_out.related))
 
 -- in which it has its place
 pub is_led_by-requires-clause-within : goal.is_led_by-requires-clause-within
 is_led_by-requires-clause-within g c =
-    rw (c.place.ensures) (slice_get_within c.args.self.now.description.controllers c.args.slot.now.place c.args.controller.now c.requires)
+    rw (c.place.ensures)
+    (slice_get_within c.args.self.now.description.controllers c.args.slot.now.place c.args.controller.now c.requires)
 
 -- where they are away names are compared
 pub returns-in-None : goal.returns-in-None
@@ -30,4 +32,5 @@ returns-in-None g c =
 
 pub returns-in-Some : goal.returns-in-Some
 returns-in-Some g c =
-    (rw (c.place.ensures) at c.is_led_by.ensures) ∙ chained_at c.args.self.now c.args.slot.now c.args.controller.now c.requires
+    (rw (c.place.ensures) at c.is_led_by.ensures)
+    ∙ chained_at c.args.self.now c.args.slot.now c.args.controller.now c.requires

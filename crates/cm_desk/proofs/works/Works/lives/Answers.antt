@@ -17,5 +17,7 @@ returns g c =
     let s = state_of a in
     rw (← c.self.view_is)
     (c.loop-line.invariant
-    ∙ ap (map (λ (line : CompLine). line.life)) (take_all c.loop-line.line-index _ (omega (arith, c.loop-line-test.false)) ∙ c.as_slice-line-items.ensures ∙ c.in_ok-lines.ensures s c.self.invariant.hardware)
+    ∙ ap (map (λ (line : CompLine). line.life))
+    (take_all c.loop-line.line-index _ (omega (arith, c.loop-line-test.false)) ∙ c.as_slice-line-items.ensures
+    ∙ c.in_ok-lines.ensures s c.self.invariant.hardware)
     ∙ lives_of 0 s.lives)

@@ -30,8 +30,10 @@ invariant_of-self-2 g c =
     let kind : l.ctl.kind ≡ kind_of d.params = rw (c.in-Some.ensures.0) c.kind.ensures in
     let idle : is_active l ≡ false = rw (c.in-Some.ensures.0) refl in
     rw (c.load.ensures, c.reserve.ensures.same.0, c.reserve.ensures.same.1, c.in-Some.ensures.2, c.kind.ensures)
-    (kept_after_load s a.names.items (base_in a) a.active_set (with_one_less a.blanks (kind_of d.params)) l c.self.invariant
-    (rw (c.described_at-controller.ensures.same, kind) refl) (rw (c.in-Some.ensures.0) (λ no. cc)) idle refl refl refl (one_less a.blanks (kind_of d.params) some))
+    (kept_after_load s a.names.items (base_in a) a.active_set (with_one_less a.blanks (kind_of d.params)) l
+    c.self.invariant
+    (rw (c.described_at-controller.ensures.same, kind) refl) (rw (c.in-Some.ensures.0) (λ no. cc)) idle refl refl refl
+    (one_less a.blanks (kind_of d.params) some))
 
 -- a blank was left, so there is a serial for it,
 pub overflow_add-self : goal.overflow_add-self
@@ -50,9 +52,19 @@ returns-clause-made g c =
     let place = c.args.place in
     let at : slice_get s.description.controllers place ≡ Some d = c.described_at-controller.ensures.same in
     let some : 0 < blanks_of a.blanks (kind_of d.params) = rw (c.kind.ensures) at c.in-Some.ensures.1 in
-    let left : (blanks_of a.blanks (kind_of d.params) == 0) ≡ false = ne_eqb (blanks_of a.blanks (kind_of d.params)) 0 (λ none. omega (arith, none, some)) in
-    let after = state_with a.checked c.take.new.self a.sessions (a.loads + 1) c.load.new.self a.requests (base_in a) a.ended a.closed in
+    let left : (blanks_of a.blanks (kind_of d.params) == 0) ≡ false =
+    ne_eqb (blanks_of a.blanks (kind_of d.params)) 0 (λ none. omega (arith, none, some)) in
+    let after = state_with a.checked c.take.new.self a.sessions (a.loads + 1) c.load.new.self a.requests (base_in a)
+    a.ended a.closed in
     let loaded : after ≡ with_controller s place (Some d) =
-    rw (c.load.ensures, c.reserve.ensures.same.0, c.reserve.ensures.same.1, c.in-Some.ensures.2, c.in-Some.ensures.0, c.kind.ensures) refl in
-    subst (λ (t : State). (is_sold_out_at t place ≡ false) × (a.loads ≡ t.loads) × (after ≡ with_controller t place (slice_get t.description.controllers place))) c.self.view_is
+    rw (
+      c.load.ensures,
+      c.reserve.ensures.same.0,
+      c.reserve.ensures.same.1,
+      c.in-Some.ensures.2,
+      c.in-Some.ensures.0,
+      c.kind.ensures,
+    ) refl in
+    subst (λ (t : State). (is_sold_out_at t place ≡ false) × (a.loads ≡ t.loads)
+    × (after ≡ with_controller t place (slice_get t.description.controllers place))) c.self.view_is
     (sold_out s place d at ∙ left, refl, rw (at) loaded)

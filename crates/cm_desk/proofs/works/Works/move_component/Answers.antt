@@ -14,14 +14,19 @@ use Rattle.cm_desk.proofs.works.Works.move_component.Goals as goal
 pub move_component-requires-clause-home : goal.move_component-requires-clause-home
 move_component-requires-clause-home g c =
     let a = c.self.inside in
-    at_home a.checked a.active_set.order a.resources (vec_capacity a.boxes) a.slots.aloft c.self.invariant.based (rw (← c.self.view_is) at c.requires.down)
+    at_home a.checked a.active_set.order a.resources (vec_capacity a.boxes) a.slots.aloft c.self.invariant.based
+    (rw (← c.self.view_is) at c.requires.down)
 
 -- its component is there
 pub move_component-requires-clause-within : goal.move_component-requires-clause-within
 move_component-requires-clause-within g c =
     let a = c.self.inside in
     let p = rw (← c.self.view_is) at c.requires.can in
-    omega (arith, length-map a.resources.robot.value.hardware.components (λ (m : Mounted). m.hardware.life), p.1.0.within)
+    omega (
+      arith,
+      length-map a.resources.robot.value.hardware.components (λ (m : Mounted). m.hardware.life),
+      p.1.0.within,
+    )
 
 -- it can move
 pub unreachable-requires : goal.unreachable-requires
@@ -47,7 +52,8 @@ invariant_of-self g c =
     let same = rewired a.resources after (vec_capacity a.boxes) c.move_component.ensures.resources in
     subst (λ (t : State). IsKept t a.names.items (base_of after (vec_capacity a.boxes)) a.active_set)
     (sym (view_moved s lives (base_in a) (base_of after (vec_capacity a.boxes)) refl refl same held))
-    (kept_moved s lives a.names.items (base_in a) (base_of after (vec_capacity a.boxes)) a.active_set c.self.invariant (rw (← c.self.view_is) at c.requires.down) held same)
+    (kept_moved s lives a.names.items (base_in a) (base_of after (vec_capacity a.boxes)) a.active_set c.self.invariant
+    (rw (← c.self.view_is) at c.requires.down) held same)
 
 pub returns : goal.returns
 returns g c =
@@ -61,4 +67,5 @@ returns g c =
     let steady : IsSteady (moved s lives) = subst IsSteady p.1.0.is p.1.1 in
     let held = held_when_steady s lives w c.self.invariant.worked_out.valid steady done.1 in
     let same = rewired a.resources after (vec_capacity a.boxes) c.move_component.ensures.resources in
-    rw (← c.self.view_is) (λ t is. view_moved s lives (base_in a) (base_of after (vec_capacity a.boxes)) refl refl same held ∙ sym is.is)
+    rw (← c.self.view_is)
+    (λ t is. view_moved s lives (base_in a) (base_of after (vec_capacity a.boxes)) refl refl same held ∙ sym is.is)

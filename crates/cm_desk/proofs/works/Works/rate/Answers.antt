@@ -15,11 +15,14 @@ invariant_of-self g c =
     let s = state_of a in
     let l = c.index-as_slice-index.result in
     let within : c.in-Some.index < length a.slots.loaded = rw (← c.self.view_is) at c.in-Some.ensures.within in
-    let here = stands_here a.checked a.slots.loaded c.in-Some.index l c.self.invariant.described within (rw (c.as_slice.ensures) at c.index-as_slice-index.is) in
+    let here = stands_here a.checked a.slots.loaded c.in-Some.index l c.self.invariant.described within
+    (rw (c.as_slice.ensures) at c.index-as_slice-index.is) in
     rw (c.set_rate.ensures l here.0)
-    (kept_after_change s a.names.items (base_in a) a.active_set c.in-Some.index l (after_rate c.args.hz l) c.self.invariant here.0 here.1
+    (kept_after_change s a.names.items (base_in a) a.active_set c.in-Some.index l (after_rate c.args.hz l)
+    c.self.invariant here.0 here.1
     (divided_here a.slots.loaded c.in-Some.index l c.self.invariant.divided here.0)
-    (record { serial = refl; place = refl; active = refl }) (fit_rate s c.in-Some.index l here.0 c.self.invariant.fit c.args.hz))
+    (record { serial = refl; place = refl; active = refl })
+    (fit_rate s c.in-Some.index l here.0 c.self.invariant.fit c.args.hz))
 
 pub returns : goal.returns
 returns g c =
@@ -27,8 +30,11 @@ returns g c =
     let s = state_of a in
     let l = c.index-as_slice-index.result in
     let within : c.in-Some.index < length a.slots.loaded = rw (← c.self.view_is) at c.in-Some.ensures.within in
-    let here = stands_here a.checked a.slots.loaded c.in-Some.index l c.self.invariant.described within (rw (c.as_slice.ensures) at c.index-as_slice-index.is) in
+    let here = stands_here a.checked a.slots.loaded c.in-Some.index l c.self.invariant.described within
+    (rw (c.as_slice.ensures) at c.index-as_slice-index.is) in
     let idle : is_active l ≡ false = sym c.is_active.ensures.active ∙ c.if-is_active.false in
     rw (← c.self.view_is, c.set_rate.ensures l here.0)
-    (changed_there s (record s { loaded = slice_set a.slots.loaded c.in-Some.index (after_rate c.args.hz l) }) c.args.name.now c.in-Some.index l (after_rate c.args.hz l)
-    rate_refusals (after_rate c.args.hz) (rw (← c.self.view_is) at c.in-Some.ensures.found) here.0 (rw idle refl) refl refl)
+    (changed_there s (record s { loaded = slice_set a.slots.loaded c.in-Some.index (after_rate c.args.hz l) })
+    c.args.name.now c.in-Some.index l (after_rate c.args.hz l)
+    rate_refusals (after_rate c.args.hz) (rw (← c.self.view_is) at c.in-Some.ensures.found) here.0 (rw idle refl) refl
+    refl)

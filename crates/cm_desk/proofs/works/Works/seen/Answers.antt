@@ -15,7 +15,8 @@ described_at-controller-requires g c =
     let a = c.self.inside in
     let l = c.index-as_slice-index.result in
     let within : c.args.index < length a.slots.loaded = rw (← c.self.view_is) at c.requires.within in
-    let here = stands_here a.checked a.slots.loaded c.args.index l c.self.invariant.described within (rw (c.as_slice.ensures) at c.index-as_slice-index.is) in
+    let here = stands_here a.checked a.slots.loaded c.args.index l c.self.invariant.described within
+    (rw (c.as_slice.ensures) at c.index-as_slice-index.is) in
     let there = described_there a.checked l here.1 in
     rw (c.place.ensures) (slice_get_within a.checked.controllers l.place there.0 there.1)
 
@@ -24,9 +25,15 @@ overflow_cast-result g c =
     let a = c.self.inside in
     let l = c.index-as_slice-index.result in
     let within : c.args.index < length a.slots.loaded = rw (← c.self.view_is) at c.requires.within in
-    let here = stands_here a.checked a.slots.loaded c.args.index l c.self.invariant.described within (rw (c.as_slice.ensures) at c.index-as_slice-index.is) in
+    let here = stands_here a.checked a.slots.loaded c.args.index l c.self.invariant.described within
+    (rw (c.as_slice.ensures) at c.index-as_slice-index.is) in
     let there = described_there a.checked l here.1 in
-    omega (arith, c.place.ensures, slice_get_within a.checked.controllers l.place there.0 there.1, few_controllers a.checked c.described_at-controller.ensures.valid)
+    omega (
+      arith,
+      c.place.ensures,
+      slice_get_within a.checked.controllers l.place there.0 there.1,
+      few_controllers a.checked c.described_at-controller.ensures.valid,
+    )
 
 -- and its description is the one there
 pub runs_chained-requires : goal.runs_chained-requires
@@ -38,7 +45,8 @@ returns g c = λ l at.
     let s = state_of a in
     let m = c.index-as_slice-index.result in
     let within : c.args.index < length a.slots.loaded = rw (← c.self.view_is) at c.requires.within in
-    let here = stands_here a.checked a.slots.loaded c.args.index m c.self.invariant.described within (rw (c.as_slice.ensures) at c.index-as_slice-index.is) in
+    let here = stands_here a.checked a.slots.loaded c.args.index m c.self.invariant.described within
+    (rw (c.as_slice.ensures) at c.index-as_slice-index.is) in
     let same : m ≡ l = same_Some m l (sym here.0 ∙ (rw (← c.self.view_is) at at)) in
     let there = rw (c.place.ensures) at c.described_at-controller.ensures.same in
     seen_as s m c.described_at-controller.result.now _ _ _ _ _ there c.serial.ensures c.place-2.ensures c.life.ensures

@@ -9,5 +9,6 @@ returns-clause-look_up c =
     record {
       ascend = IsNonDecreasingBy-from_sort (λ n. n) c.sort_unstable.new.self.items c.sort_unstable.ensures.sorted;
       same =
-          same_in_order c.args.listed.items c.sort_unstable.new.self.items (rw copied at c.sort_unstable.ensures.permutation);
+          same_in_order c.args.listed.items c.sort_unstable.new.self.items
+          (rw copied at c.sort_unstable.ensures.permutation);
     }

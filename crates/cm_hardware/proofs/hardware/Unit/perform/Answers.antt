@@ -7,4 +7,10 @@ pub gather-requires-clause-few : goal.gather-requires-clause-few
 gather-requires-clause-few c =
     let rest = drop c.args.at c.loans.result.now in
     let same : length c.loans.result.now ≡ length c.args.board.now = ap length c.loans.ensures in
-    omega (arith, length-take (c.args.at + c.len-count.result - c.args.at) rest, length-drop c.args.at c.loans.result.now, same, c.len.ensures.few)
+    omega (
+      arith,
+      length-take (c.args.at + c.len-count.result - c.args.at) rest,
+      length-drop c.args.at c.loans.result.now,
+      same,
+      c.len.ensures.few,
+    )

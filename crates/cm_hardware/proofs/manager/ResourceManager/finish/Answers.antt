@@ -12,9 +12,11 @@ pub returns : goal.returns
 returns c =
     let w = c.args.self.now in
     record {
-      finished = λ (s : State) (is : IsInCycle s (values_updated s) w) (ended : s.ended ≡ c.args.number) (lasts : period s.description ≡ c.args.dt_us).
+      finished = λ (s : State) (is : IsInCycle s (values_updated s) w) (ended : s.ended ≡ c.args.number)
+          (lasts : period s.description ≡ c.args.dt_us).
           rw (c.run.ensures.hardware, c.run.ensures.failed, c.run.ensures.bodies, sym ended, sym lasts)
           (finished s w c.args.failed.now.items c.args.bodies.now.items is c.run.ensures.sound);
       build = rw (c.run.ensures.hardware)
-          (same_build w (after_run c.args.number c.args.dt_us w) (alike_after c.args.number c.args.dt_us (all_states w.components) w.loans w.components));
+          (same_build w (after_run c.args.number c.args.dt_us w)
+          (alike_after c.args.number c.args.dt_us (all_states w.components) w.loans w.components));
     }

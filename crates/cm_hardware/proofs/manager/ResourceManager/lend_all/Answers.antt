@@ -7,4 +7,5 @@ pub invariant_of-self : goal.invariant_of-self
 invariant_of-self c =
     let k = c.self.inside in
     let w : Wired = record { components = k.units.items; loans = k.board; places = k.places.items } in
-    rw (c.lend_places.ensures.board) (managed_lent k.first_command c.args.places.now c.args.active.now c.args.stopped.now w c.self.invariant)
+    rw (c.lend_places.ensures.board)
+    (managed_lent k.first_command c.args.places.now c.args.active.now c.args.stopped.now w c.self.invariant)

@@ -11,9 +11,11 @@ pub invariant_of-self : goal.invariant_of-self
 invariant_of-self c =
     let k = c.self.inside in
     let w : Wired = record { components = k.units.items; loans = k.board; places = k.places.items } in
-    let units : c.move_unit.new.units ≡ moved_at c.args.place c.args.target k.units.items = rw (c.as_mut_slice-units.ensures.value) at c.move_unit.ensures.units in
+    let units : c.move_unit.new.units ≡ moved_at c.args.place c.args.target k.units.items =
+    rw (c.as_mut_slice-units.ensures.value) at c.move_unit.ensures.units in
     let long : length c.move_unit.new.units ≡ k.units.len = omega arith in
-    rw (with_items_is k.units c.move_unit.new.units long, units) (managed_moved k.first_command c.args.place c.args.target w c.self.invariant)
+    rw (with_items_is k.units c.move_unit.new.units long, units)
+    (managed_moved k.first_command c.args.place c.args.target w c.self.invariant)
 
 -- nothing changes then
 pub returns-in_err-move_unit-clause-hardware : goal.returns-in_err-move_unit-clause-hardware
@@ -22,9 +24,11 @@ returns-in_err-move_unit-clause-hardware c =
     let place = c.args.place in
     let target = c.args.target in
     let w : Wired = record { components = k.units.items; loans = k.board; places = k.places.items } in
-    let units : c.move_unit.new.units ≡ moved_at place target k.units.items = rw (c.as_mut_slice-units.ensures.value) at c.move_unit.ensures.units in
+    let units : c.move_unit.new.units ≡ moved_at place target k.units.items =
+    rw (c.as_mut_slice-units.ensures.value) at c.move_unit.ensures.units in
     let answer = rw (c.as_mut_slice-units.ensures.value) at c.move_unit.ensures.answer in
-    let none : has_move (life_in place k.units.items) target ≡ false = refused place target k.units.items c.in_err-move_unit.field-0.0 (sym answer ∙ c.in_err-move_unit.was) in
+    let none : has_move (life_in place k.units.items) target ≡ false =
+    refused place target k.units.items c.in_err-move_unit.field-0.0 (sym answer ∙ c.in_err-move_unit.was) in
     let long : length c.move_unit.new.units ≡ k.units.len = omega arith in
     let before : w ≡ c.args.self.now = c.self.view_is in
     ap (λ (ms : List Mounted). record { components = ms; loans = k.board; places = k.places.items })
@@ -36,9 +40,12 @@ pub settle-requires : goal.settle-requires
 settle-requires c =
     let k = c.self.inside in
     let ms = k.units.items in
-    let units : c.move_unit.new.units ≡ moved_at c.args.place c.args.target k.units.items = rw (c.as_mut_slice-units.ensures.value) at c.move_unit.ensures.units in
+    let units : c.move_unit.new.units ≡ moved_at c.args.place c.args.target k.units.items =
+    rw (c.as_mut_slice-units.ensures.value) at c.move_unit.ensures.units in
     let states : all_states c.move_unit.new.units ≡ all_states k.units.items =
-    ap all_states units ∙ states_stay k.units.items (moved_at c.args.place c.args.target k.units.items) (alike_at c.args.place c.args.target k.units.items) in
+    ap all_states units
+    ∙ states_stay k.units.items (moved_at c.args.place c.args.target k.units.items)
+    (alike_at c.args.place c.args.target k.units.items) in
     let here : length ms ≡ length c.args.self.now.components = ap (λ (w : Wired). length w.components) c.self.view_is in
     let long : length c.move_unit.new.units ≡ k.units.len = omega arith in
     record {
@@ -55,9 +62,11 @@ invariant_of-self-2 c =
     let target = c.args.target in
     let had = c.has_interfaces-had.result in
     let w : Wired = record { components = k.units.items; loans = k.board; places = k.places.items } in
-    let units : c.move_unit.new.units ≡ moved_at place target k.units.items = rw (c.as_mut_slice-units.ensures.value) at c.move_unit.ensures.units in
+    let units : c.move_unit.new.units ≡ moved_at place target k.units.items =
+    rw (c.as_mut_slice-units.ensures.value) at c.move_unit.ensures.units in
     let after : c.settle.new.units ≡ moved_at place target k.units.items = c.settle.ensures.units ∙ units in
     let loans : c.settle.new.board ≡ settled place had (moved_at place target k.units.items) k.places.items k.board =
     rw (units, c.deref.ensures.value) at c.settle.ensures.board in
     let long : length c.settle.new.units ≡ k.units.len = omega arith in
-    rw (with_items_is k.units c.settle.new.units long, after, loans) (managed_settled k.first_command place target had w c.self.invariant)
+    rw (with_items_is k.units c.settle.new.units long, after, loans)
+    (managed_settled k.first_command place target had w c.self.invariant)

@@ -13,4 +13,5 @@ invariant_of-self c =
     let units : c.perform_units.new.units ≡ all_performed k.board (all_states k.units.items) k.units.items =
     rw (c.as_mut_slice-units.ensures.value, c.self.invariant.first) at c.perform_units.ensures in
     let long : length c.perform_units.new.units ≡ k.units.len = omega arith in
-    rw (with_items_is k.units c.perform_units.new.units long, units) (managed_performed k.first_command w c.self.invariant)
+    rw (with_items_is k.units c.perform_units.new.units long, units)
+    (managed_performed k.first_command w c.self.invariant)

@@ -4,4 +4,5 @@ use Rattle.cm_model.proofs.blanks.Blanks.with.Goals as goal
 
 pub returns : goal.returns
 returns c =
-    rw (← c.self.view_is, c.place.ensures.place) (set_count c.self.inside.counts c.args.kind c.args.count (omega (arith, c.self.told)))
+    rw (← c.self.view_is, c.place.ensures.place)
+    (set_count c.self.inside.counts c.args.kind c.args.count (omega (arith, c.self.told)))

@@ -4,16 +4,24 @@ use Rattle.cm_places.proofs.places.CtlPlaces.of.Goals as goal
 
 -- interfaces have numbers of 32 bits
 pub reads-requires : goal.reads-requires
-reads-requires c = rw c.deref.ensures.value (few_listed c.args.checked.now c.in_ok-listed.listed.items c.description.ensures.valid c.in_ok-listed.ensures)
+reads-requires c =
+    rw c.deref.ensures.value
+    (few_listed c.args.checked.now c.in_ok-listed.listed.items c.description.ensures.valid c.in_ok-listed.ensures)
 
 pub references-requires : goal.references-requires
-references-requires c = rw c.deref-2.ensures.value (few_listed c.args.checked.now c.in_ok-listed.listed.items c.description.ensures.valid c.in_ok-listed.ensures)
+references-requires c =
+    rw c.deref-2.ensures.value
+    (few_listed c.args.checked.now c.in_ok-listed.listed.items c.description.ensures.valid c.in_ok-listed.ensures)
 
 pub claims_of-requires : goal.claims_of-requires
-claims_of-requires c = rw c.deref-3.ensures.value (few_listed c.args.checked.now c.in_ok-listed.listed.items c.description.ensures.valid c.in_ok-listed.ensures)
+claims_of-requires c =
+    rw c.deref-3.ensures.value
+    (few_listed c.args.checked.now c.in_ok-listed.listed.items c.description.ensures.valid c.in_ok-listed.ensures)
 
 pub claimers-requires : goal.claimers-requires
-claimers-requires c = rw (c.as_slice-controllers.ensures, c.description.ensures.same) (few_controllers c.args.checked.now c.description.ensures.valid)
+claimers-requires c =
+    rw (c.as_slice-controllers.ensures, c.description.ensures.same)
+    (few_controllers c.args.checked.now c.description.ensures.valid)
 
 -- what is looked up are the places
 pub returns : goal.returns

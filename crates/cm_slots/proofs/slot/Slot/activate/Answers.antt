@@ -17,6 +17,7 @@ keep-requires g c =
     let kept = kept_once_activated a.life before _ c.args.states.now c.args.chained c.self.invariant.0 can in
     let here : before ≡ c.args.self.now.ctl = ap (λ (l : Loaded). l.ctl) c.self.view_is in
     let own : c.args.self.now.ctl ≡ g.C.Controller.meaning c.in-Some.ctl =
-    ap (λ (o : Option CtlData). unwrap_or o before) (sym c.requires.home ∙ ap (option_map g.C.Controller.meaning) c.in-Some.is) in
+    ap (λ (o : Option CtlData). unwrap_or o before)
+    (sym c.requires.home ∙ ap (option_map g.C.Controller.meaning) c.in-Some.is) in
     subst (λ (ctl : CtlData). IsKept Active ctl)
     (ap (λ (ctl : CtlData). activated ctl c.args.states.now c.args.chained) (here ∙ own) ∙ sym c.activate.ensures) kept

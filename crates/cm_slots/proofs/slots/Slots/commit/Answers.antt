@@ -26,7 +26,8 @@ invariant_of-self g c =
     rw (with_items_is a.slots c.commit_each.new.slots slots, with_items_is a.boxes c.commit_each.new.boxes boxes) (
       c.commit_each.ensures.home ∙ ap (λ (b : Bool). map (box_of b) c.commit_each.new.slots) (sym can.home),
       rw (c.commit_each.ensures.committed, c.deref_mut.ensures.value)
-          (told_committed a.mail_waits c.args.places.now c.args.hardware.now.loans c.args.chained.now c.args.stopped.now c.args.started.now a.slots.items c.self.invariant.1),
+          (told_committed a.mail_waits c.args.places.now c.args.hardware.now.loans c.args.chained.now c.args.stopped.now
+          c.args.started.now a.slots.items c.self.invariant.1),
     )
 
 -- by place it is the commit of the state
@@ -35,5 +36,12 @@ returns-clause-committed g c = λ s set again valid placed shown loaded told.
     let a = c.self.inside in
     let slots : length c.commit_each.new.slots ≡ a.slots.len = omega arith in
     let same = rw (← c.self.view_is) at loaded in
-    rw (with_items_is a.slots c.commit_each.new.slots slots, c.commit_each.ensures.committed, c.deref_mut.ensures.value, placed, same)
-    (committed_all s set again c.args.hardware.now.loans c.args.chained.now c.args.stopped.now c.args.started.now valid shown told)
+    rw (
+      with_items_is a.slots c.commit_each.new.slots slots,
+      c.commit_each.ensures.committed,
+      c.deref_mut.ensures.value,
+      placed,
+      same,
+    )
+    (committed_all s set again c.args.hardware.now.loans c.args.chained.now c.args.stopped.now c.args.started.now valid
+    shown told)

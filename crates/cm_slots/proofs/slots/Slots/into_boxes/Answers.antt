@@ -19,4 +19,6 @@ pub returns : goal.returns
 returns g c =
     let a = c.self.inside in
     let home : a.aloft ≡ false = rw (← c.self.view_is) at c.requires.home in
-    rw (← c.self.view_is) (ctls_of (map g.C.Controller.meaning c.boxes_of.result.items) a.slots.items (c.boxes_of.ensures ∙ c.self.invariant.0 ∙ ap (λ (b : Bool). map (box_of b) a.slots.items) home))
+    rw (← c.self.view_is)
+    (ctls_of (map g.C.Controller.meaning c.boxes_of.result.items) a.slots.items
+    (c.boxes_of.ensures ∙ c.self.invariant.0 ∙ ap (λ (b : Bool). map (box_of b) a.slots.items) home))

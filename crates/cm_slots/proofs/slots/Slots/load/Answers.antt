@@ -14,13 +14,15 @@ pub push_reserved-requires : goal.push_reserved-requires
 push_reserved-requires g c =
     let a = c.self.inside in
     ltb-true (vec_len a.slots) (vec_capacity a.slots)
-    (and_parts (nat_lt (vec_len a.slots) (vec_capacity a.slots)) (nat_lt (vec_len a.boxes) (vec_capacity a.boxes)) (rw (← c.self.view_is) at c.requires.room)).0
+    (and_parts (nat_lt (vec_len a.slots) (vec_capacity a.slots)) (nat_lt (vec_len a.boxes) (vec_capacity a.boxes))
+    (rw (← c.self.view_is) at c.requires.room)).0
 
 pub push_reserved-requires-2 : goal.push_reserved-requires-2
 push_reserved-requires-2 g c =
     let a = c.self.inside in
     ltb-true (vec_len a.boxes) (vec_capacity a.boxes)
-    (and_parts (nat_lt (vec_len a.slots) (vec_capacity a.slots)) (nat_lt (vec_len a.boxes) (vec_capacity a.boxes)) (rw (← c.self.view_is) at c.requires.room)).1
+    (and_parts (nat_lt (vec_len a.slots) (vec_capacity a.slots)) (nat_lt (vec_len a.boxes) (vec_capacity a.boxes))
+    (rw (← c.self.view_is) at c.requires.room)).1
 
 -- a blank does not run, so its box is there, and no mail waits for it
 pub invariant_of-self : goal.invariant_of-self
@@ -29,7 +31,8 @@ invariant_of-self g c =
     let slot = c.new-slot.result in
     let blank : CtlData = g.C.Controller.meaning c.args.blank in
     let still : slot.ctl.run ≡ None = rw c.new-slot.ensures (ap (λ (ctl : CtlData). ctl.run) c.requires.blank) in
-    let own : Some blank ≡ box_of a.aloft slot = sym (idle_is_home a.aloft slot still ∙ ap Some (rw c.new-slot.ensures refl)) in
+    let own : Some blank ≡ box_of a.aloft slot =
+    sym (idle_is_home a.aloft slot still ∙ ap Some (rw c.new-slot.ensures refl)) in
     rw (c.push_reserved.ensures.items, c.push_reserved-2.ensures.items) (
       map-append (option_map g.C.Controller.meaning) a.boxes.items (Some c.args.blank ∷ [])
           ∙ ap₂ (λ xs box. xs ++ box ∷ []) c.self.invariant.0 own

@@ -14,7 +14,8 @@ park_each-requires g c =
     let can = rw (← c.self.view_is) at c.requires in
     rw (c.deref_mut.ensures.value, c.deref_mut-2.ensures.value) (record {
       within = run_within can.run.0 a.slots.items c.args.run.now can.run.1;
-      places = length-map a.boxes.items (option_map g.C.Controller.meaning) ∙ as_many _ _ a.boxes.items a.slots.items c.self.invariant.0;
+      places = length-map a.boxes.items (option_map g.C.Controller.meaning)
+          ∙ as_many _ _ a.boxes.items a.slots.items c.self.invariant.0;
       as_many = can.as_many;
       running = can.running;
     })
@@ -25,7 +26,8 @@ invariant_of-self g c =
     let a = c.self.inside in
     let can = rw (← c.self.view_is) at c.requires in
     let ctls : List CtlData = map g.C.Controller.meaning c.args.boxes.now.items in
-    let away : map (option_map g.C.Controller.meaning) a.boxes.items ≡ map (box_of true) a.slots.items = c.self.invariant.0 ∙ ap (λ (b : Bool). map (box_of b) a.slots.items) can.lent in
+    let away : map (option_map g.C.Controller.meaning) a.boxes.items ≡ map (box_of true) a.slots.items =
+    c.self.invariant.0 ∙ ap (λ (b : Bool). map (box_of b) a.slots.items) can.lent in
     let slots : length c.park_each.new.slots ≡ a.slots.len = omega arith in
     let boxes : length c.park_each.new.boxes ≡ a.boxes.len = omega arith in
     rw (
@@ -36,8 +38,10 @@ invariant_of-self g c =
       c.deref_mut.ensures.value,
       c.deref_mut-2.ensures.value,
       away,
+    ) (
+      are_home can.run.0 a.slots.items c.args.run.now can.run.1 ctls can.as_many,
+      told_parked a.mail_waits c.args.run.now ctls a.slots.items c.self.invariant.1,
     )
-    (are_home can.run.0 a.slots.items c.args.run.now can.run.1 ctls can.as_many, told_parked a.mail_waits c.args.run.now ctls a.slots.items c.self.invariant.1)
 
 pub returns-clause-parked : goal.returns-clause-parked
 returns-clause-parked g c =

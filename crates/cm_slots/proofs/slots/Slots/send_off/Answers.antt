@@ -16,7 +16,9 @@ invariant_of-self g c =
     let left : List Loaded = map (without_sent c.args.cycle) a.slots.items in
     let looked : c.some_mail_waits-self-inside.result ≡ list_any has_mail left =
     c.some_mail_waits-self-inside.ensures
-    ∙ ap (list_any has_mail) (c.deref.ensures.value ∙ with_items_is a.slots c.send_each.new.slots slots ∙ c.send_each.ensures.slots ∙ ap (map (without_sent c.args.cycle)) c.deref_mut.ensures.value) in
+    ∙ ap (list_any has_mail)
+    (c.deref.ensures.value ∙ with_items_is a.slots c.send_each.new.slots slots ∙ c.send_each.ensures.slots
+    ∙ ap (map (without_sent c.args.cycle)) c.deref_mut.ensures.value) in
     rw (with_items_is a.slots c.send_each.new.slots slots, c.send_each.ensures.slots, c.deref_mut.ensures.value) (
       c.self.invariant.0 ∙ sym (boxes_sent a.aloft c.args.cycle a.slots.items),
       subst (λ (waits : Bool). AllByRecursion (WaitsAsTold waits) left) (sym looked) (told_looked left),
@@ -35,11 +37,15 @@ returns-then-self-clause-mails g c = λ s number.
 pub returns-else-self-clause-slots : goal.returns-else-self-clause-slots
 returns-else-self-clause-slots g c = λ s number.
     let a = c.self.inside in
-    let none : AllByRecursion (WaitsAsTold false) a.slots.items = subst (λ (waits : Bool). AllByRecursion (WaitsAsTold waits) a.slots.items) c.if-self.false c.self.invariant.1 in
+    let none : AllByRecursion (WaitsAsTold false) a.slots.items =
+    subst (λ (waits : Bool). AllByRecursion (WaitsAsTold waits) a.slots.items) c.if-self.false c.self.invariant.1 in
     rw (← c.self.view_is) (ap (showing a.aloft _) (sym (none_goes s a.slots.items none)))
 
 pub returns-else-self-clause-mails : goal.returns-else-self-clause-mails
 returns-else-self-clause-mails g c = λ s number.
     let a = c.self.inside in
-    let none : AllByRecursion (WaitsAsTold false) a.slots.items = subst (λ (waits : Bool). AllByRecursion (WaitsAsTold waits) a.slots.items) c.if-self.false c.self.invariant.1 in
-    rw (← c.self.view_is) (sym (ap (λ (mails : List MailAloft). c.args.mails.now.items ++ mails) (none_off s a.slots.items none) ∙ append-nil c.args.mails.now.items))
+    let none : AllByRecursion (WaitsAsTold false) a.slots.items =
+    subst (λ (waits : Bool). AllByRecursion (WaitsAsTold waits) a.slots.items) c.if-self.false c.self.invariant.1 in
+    rw (← c.self.view_is)
+    (sym (ap (λ (mails : List MailAloft). c.args.mails.now.items ++ mails) (none_off s a.slots.items none)
+    ∙ append-nil c.args.mails.now.items))

@@ -12,9 +12,13 @@ invariant_of-self g c =
     let a = c.self.inside in
     let l = c.index_mut.result.now in
     let within : c.args.index < length a.slots.items = rw (← c.self.view_is) at c.requires in
-    let stands : slice_get a.slots.items c.args.index ≡ Some l = slice_get_read a.slots.items (length a.slots.items) c.args.index l refl within c.index_mut.ensures.value in (
-      c.self.invariant.0 ∙ sym (boxes_same a.aloft a.slots.items c.args.index l c.set_rate.new.self stands (rw c.set_rate.ensures refl)),
-      told_set a.mail_waits a.slots.items c.args.index l c.set_rate.new.self stands (rw c.set_rate.ensures refl) c.self.invariant.1,
+    let stands : slice_get a.slots.items c.args.index ≡ Some l =
+    slice_get_read a.slots.items (length a.slots.items) c.args.index l refl within c.index_mut.ensures.value in (
+      c.self.invariant.0
+          ∙ sym (boxes_same a.aloft a.slots.items c.args.index l c.set_rate.new.self stands
+          (rw c.set_rate.ensures refl)),
+      told_set a.mail_waits a.slots.items c.args.index l c.set_rate.new.self stands (rw c.set_rate.ensures refl)
+          c.self.invariant.1,
     )
 
 pub returns : goal.returns
@@ -22,6 +26,8 @@ returns g c = λ m found.
     let a = c.self.inside in
     let l = c.index_mut.result.now in
     let within : c.args.index < length a.slots.items = rw (← c.self.view_is) at c.requires in
-    let stands : slice_get a.slots.items c.args.index ≡ Some l = slice_get_read a.slots.items (length a.slots.items) c.args.index l refl within c.index_mut.ensures.value in
+    let stands : slice_get a.slots.items c.args.index ≡ Some l =
+    slice_get_read a.slots.items (length a.slots.items) c.args.index l refl within c.index_mut.ensures.value in
     let same : l ≡ m = same_Some l m (sym stands ∙ (rw (← c.self.view_is) at found)) in
-    rw (← c.self.view_is) (ap (shown a.aloft _ a.slots.items c.args.index) (c.set_rate.ensures ∙ ap (after_rate c.args.hz) same))
+    rw (← c.self.view_is)
+    (ap (shown a.aloft _ a.slots.items c.args.index) (c.set_rate.ensures ∙ ap (after_rate c.args.hz) same))

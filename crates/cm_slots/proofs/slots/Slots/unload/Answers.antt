@@ -11,13 +11,15 @@ use Rattle.cm_slots.proofs.slots.Slots.unload.Goals as goal
 
 pub remove-slot-requires : goal.remove-slot-requires
 remove-slot-requires g c =
-    let below : c.args.index < length c.self.inside.slots.items = within_some _ c.self.inside.slots.items c.args.index (rw (← c.self.view_is) at c.requires) in
+    let below : c.args.index < length c.self.inside.slots.items =
+    within_some _ c.self.inside.slots.items c.args.index (rw (← c.self.view_is) at c.requires) in
     omega (arith, below)
 
 pub remove-requires : goal.remove-requires
 remove-requires g c =
     let a = c.self.inside in
-    let below : c.args.index < length a.slots.items = within_some _ a.slots.items c.args.index (rw (← c.self.view_is) at c.requires) in
+    let below : c.args.index < length a.slots.items =
+    within_some _ a.slots.items c.args.index (rw (← c.self.view_is) at c.requires) in
     omega (arith, below, as_many _ _ a.boxes.items a.slots.items c.self.invariant.0)
 
 -- it does not run, so its box is there
@@ -25,8 +27,10 @@ pub into_ctl-requires : goal.into_ctl-requires
 into_ctl-requires g c =
     let a = c.self.inside in
     let l = c.remove-slot.result in
-    let here = there (λ (m : Loaded). is_active m ≡ false) a.slots.items c.args.index l (rw (← c.self.view_is) at c.requires) c.remove-slot.ensures.value in
-    own_box g.C.Controller.meaning a.aloft a.boxes.items a.slots.items c.args.index c.remove.result l c.self.invariant.0 here.0 c.remove.ensures.value
+    let here = there (λ (m : Loaded). is_active m ≡ false) a.slots.items c.args.index l
+    (rw (← c.self.view_is) at c.requires) c.remove-slot.ensures.value in
+    own_box g.C.Controller.meaning a.aloft a.boxes.items a.slots.items c.args.index c.remove.result l c.self.invariant.0
+    here.0 c.remove.ensures.value
     ∙ still_is_home a.aloft l here.1
 
 -- the others are where they were
@@ -44,5 +48,6 @@ pub returns-clause-given : goal.returns-clause-given
 returns-clause-given g c = λ m found.
     let a = c.self.inside in
     let l = c.remove-slot.result in
-    let here = there (λ (m : Loaded). is_active m ≡ false) a.slots.items c.args.index l (rw (← c.self.view_is) at c.requires) c.remove-slot.ensures.value in
+    let here = there (λ (m : Loaded). is_active m ≡ false) a.slots.items c.args.index l
+    (rw (← c.self.view_is) at c.requires) c.remove-slot.ensures.value in
     c.into_ctl.ensures ∙ ap (λ (x : Loaded). x.ctl) (same_Some l m (sym here.0 ∙ (rw (← c.self.view_is) at found)))

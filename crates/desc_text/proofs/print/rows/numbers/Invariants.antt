@@ -7,6 +7,7 @@ use Rattle.desc_text.proofs.print.rows.numbers.Given as goal
 -- the numbers so far, and those of the cycles that are left, are those of all, and those that are left are wholes
 abbrev pub invariant-loop-cycle : goal.invariant-loop-cycle
 invariant-loop-cycle l = record {
-  all : map view l.list.items ++ map (λ n. integer (pos n)) (drop l.cycle-index l.cycles) ≡ map (λ n. integer (pos n)) l.cycles;
+  all : map view l.list.items ++ map (λ n. integer (pos n)) (drop l.cycle-index l.cycles)
+      ≡ map (λ n. integer (pos n)) l.cycles;
   left : AreWholes (drop l.cycle-index l.cycles);
 }

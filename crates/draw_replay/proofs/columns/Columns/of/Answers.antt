@@ -7,4 +7,5 @@ use Rattle.draw_replay.proofs.columns.Columns.of.Goals as goal
 pub invariant_of-result-clause-all : goal.invariant_of-result-clause-all
 invariant_of-result-clause-all c =
     rw (c.min-count.ensures, c.div_ceil-2.ensures)
-    (all_have_columns c.args.cycles MOST_COLUMNS c.max-each.result (omega arith) (rw (← c.div_ceil.ensures) c.max-each.ensures))
+    (all_have_columns c.args.cycles MOST_COLUMNS c.max-each.result (omega arith)
+    (rw (← c.div_ceil.ensures) c.max-each.ensures))

@@ -11,6 +11,7 @@ unreachable-requires c =
     let range : IsInRange c.args.self = search rules in
     let small : nat_abs c.args.self ≤ 1000000000000000 = omega (arith, ints) in
     let text = spelled_IsUtf8 c.args.self small in
-    let bytes : IsUtf8 c.push_text.new.text.items = rw (c.in_ok-push_text.ensures.bytes, c.in_ok-bytes.ensures.items) text in
+    let bytes : IsUtf8 c.push_text.new.text.items =
+    rw (c.in_ok-push_text.ensures.bytes, c.in_ok-bytes.ensures.items) text in
     let fits = c.in-Err.ensures.succeeds bytes in
     cc

@@ -7,5 +7,6 @@ use Rattle.hw_component.proofs.component.Component.prepare.Given as goal
 -- the least joint among those that are left is the least of all
 abbrev pub invariant-loop-joint : goal.invariant-loop-joint
 invariant-loop-joint l =
-    find (is_contested (command_interfaces l.self.description) l.claims) (range_with_len l.joint (length l.self.description.joints - l.joint))
+    find (is_contested (command_interfaces l.self.description) l.claims)
+    (range_with_len l.joint (length l.self.description.joints - l.joint))
     ≡ mode_fault l.self.description l.claims

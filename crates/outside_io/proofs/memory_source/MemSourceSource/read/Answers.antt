@@ -15,5 +15,15 @@ returns-clause-bytes c =
     let count = rw (c.deref.ensures.value, take_rest bytes at) at c.min-count.ensures in
     let fits : n ≤ length (drop at bytes) = omega (arith, count) in (
       rw (← left, copied) (given-next bytes behind at n fits),
-      λ none room. drop_all (at + n) bytes (omega (arith, none, room, count, length-append c.copy_from_slice.new.self behind, length-drop n c.args.buf.now, length-drop at bytes, c.copy_from_slice.ensures.len)),
+      λ none room. drop_all (at + n) bytes
+          (omega (
+            arith,
+            none,
+            room,
+            count,
+            length-append c.copy_from_slice.new.self behind,
+            length-drop n c.args.buf.now,
+            length-drop at bytes,
+            c.copy_from_slice.ensures.len,
+          )),
     )

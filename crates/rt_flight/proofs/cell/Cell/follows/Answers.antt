@@ -13,7 +13,8 @@ returns g c =
     let w = c.args.relations.now in
     let cells = c.args.cells.now in
     let row : c.row-leaders.result.now ≡ linked w.leaders c.self.inside.workspace.place =
-    c.row-leaders.ensures.row ∙ ap (λ (rows : List (List ℕ)). linked rows c.place.result) c.leaders.ensures ∙ ap (linked w.leaders) c.place.ensures in
+    c.row-leaders.ensures.row ∙ ap (λ (rows : List (List ℕ)). linked rows c.place.result) c.leaders.ensures
+    ∙ ap (linked w.leaders) c.place.ensures in
     c.one_stands_in.ensures
     ∙ any_swapped (λ (place : ℕ) (d : CellFacts). place == d.workspace.place) c.row-leaders.result.now cells
     ∙ ap (λ (places : List ℕ). list_any (λ (d : CellFacts). is_listed places d.workspace.place) cells) row

@@ -10,6 +10,7 @@ returns-clause-post g c =
     let own = c.self.inside in
     let kind = ap (λ (x : CtlData). x.kind) c.step.ensures.step.ctl
     ∙ step_kind own.running c.args.tick own.workspace.states own.workspace.references c.take-mail.result in
-    post_stays own.workspace c.step.new.self own.running c.step.new.running own.mail c.take-mail.new.self own.depth own.turn own.turn own.done (Some c.step.result)
+    post_stays own.workspace c.step.new.self own.running c.step.new.running own.mail c.take-mail.new.self own.depth
+    own.turn own.turn own.done (Some c.step.result)
     c.step.ensures.workspace c.step.ensures.step.width kind
     ∙ ap post_of c.self.view_is

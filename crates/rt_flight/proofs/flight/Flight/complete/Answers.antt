@@ -13,14 +13,28 @@ use Rattle.rt_flight.proofs.flight.Flight.complete.Goals as goal
 pub end_turns-requires : goal.end_turns-requires
 end_turns-requires g c =
     let a = c.self.inside in
-    let p : Progress = record { depths = a.stage.depths; scattered = a.stage.scattered; gathered = a.stage.gathered; turned = a.stage.turned; waiting = a.stage.waiting; begun = a.stage.begun.value.items; read = a.stage.read.value; left = a.stage.left.value.items } in
-    let may : CanComplete (facts_with a.number a.cells.items a.context.value (shown a.stage.started p)) = subst CanComplete (sym c.self.view_is) c.requires in
+    let p : Progress =
+    record {
+      depths = a.stage.depths;
+      scattered = a.stage.scattered;
+      gathered = a.stage.gathered;
+      turned =
+          a.stage.turned;
+      waiting = a.stage.waiting;
+      begun = a.stage.begun.value.items;
+      read = a.stage.read.value;
+      left = a.stage.left.value.items;
+    } in
+    let may : CanComplete (facts_with a.number a.cells.items a.context.value (shown a.stage.started p)) =
+    subst CanComplete (sym c.self.view_is) c.requires in
     let all = all_turned_of a.number a.cells.items a.context.value a.stage.started p c.self.invariant may in (
       p.begun,
       (
         p.read,
-        subst (λ (cs : List CellFacts). HaveAllTurned a.number p.begun cs p.read c.deref_mut-context.result.now) (sym c.as_slice.ensures.value)
-            (subst (λ (x : CycleContext). HaveAllTurned a.number p.begun a.cells.items p.read x) (sym c.deref_mut-context.ensures.value) all),
+        subst (λ (cs : List CellFacts). HaveAllTurned a.number p.begun cs p.read c.deref_mut-context.result.now)
+            (sym c.as_slice.ensures.value)
+            (subst (λ (x : CycleContext). HaveAllTurned a.number p.begun a.cells.items p.read x)
+            (sym c.deref_mut-context.ensures.value) all),
       ),
     )
 
@@ -28,12 +42,29 @@ end_turns-requires g c =
 pub returns-clause-cycle : goal.returns-clause-cycle
 returns-clause-cycle g c = λ s way.
     let a = c.self.inside in
-    let p : Progress = record { depths = a.stage.depths; scattered = a.stage.scattered; gathered = a.stage.gathered; turned = a.stage.turned; waiting = a.stage.waiting; begun = a.stage.begun.value.items; read = a.stage.read.value; left = a.stage.left.value.items } in
-    let may : CanComplete (facts_with a.number a.cells.items a.context.value (shown a.stage.started p)) = subst CanComplete (sym c.self.view_is) c.requires in
+    let p : Progress =
+    record {
+      depths = a.stage.depths;
+      scattered = a.stage.scattered;
+      gathered = a.stage.gathered;
+      turned =
+          a.stage.turned;
+      waiting = a.stage.waiting;
+      begun = a.stage.begun.value.items;
+      read = a.stage.read.value;
+      left = a.stage.left.value.items;
+    } in
+    let may : CanComplete (facts_with a.number a.cells.items a.context.value (shown a.stage.started p)) =
+    subst CanComplete (sym c.self.view_is) c.requires in
     let all = all_turned_of a.number a.cells.items a.context.value a.stage.started p c.self.invariant may in
-    let on : IsUnderWay s (facts_with a.number a.cells.items a.context.value (shown a.stage.started p)) = subst (IsUnderWay s) (sym c.self.view_is) way in
-    let of : HasBegunOf s a.number p.begun p.read = begun_in a.number a.cells.items a.context.value a.stage.started p s on in
-    subst (λ (cs : List CellFacts). IsComputed s (facts_with a.number cs c.end_turns.new.context (shown a.stage.started p))) c.as_slice.ensures.value
+    let on : IsUnderWay s (facts_with a.number a.cells.items a.context.value (shown a.stage.started p)) =
+    subst (IsUnderWay s) (sym c.self.view_is) way in
+    let of : HasBegunOf s a.number p.begun p.read =
+    begun_in a.number a.cells.items a.context.value a.stage.started p s on in
+    subst (λ (cs : List CellFacts). IsComputed s
+    (facts_with a.number cs c.end_turns.new.context (shown a.stage.started p))) c.as_slice.ensures.value
     (c.end_turns.ensures.cycle p.begun p.read
-    (subst (λ (cs : List CellFacts). HaveAllTurned a.number p.begun cs p.read c.deref_mut-context.result.now) (sym c.as_slice.ensures.value)
-    (subst (λ (x : CycleContext). HaveAllTurned a.number p.begun a.cells.items p.read x) (sym c.deref_mut-context.ensures.value) all)) (shown a.stage.started p) s of)
+    (subst (λ (cs : List CellFacts). HaveAllTurned a.number p.begun cs p.read c.deref_mut-context.result.now)
+    (sym c.as_slice.ensures.value)
+    (subst (λ (x : CycleContext). HaveAllTurned a.number p.begun a.cells.items p.read x)
+    (sym c.deref_mut-context.ensures.value) all)) (shown a.stage.started p) s of)

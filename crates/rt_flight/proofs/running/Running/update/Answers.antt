@@ -9,7 +9,8 @@ use Rattle.rt_flight.proofs.running.Running.update.Goals as goal
 pub invariant_of-self : goal.invariant_of-self
 invariant_of-self g c =
     rw (c.update.ensures.after, c.hand.ensures)
-    (kept_once_stepped Active (g.C.Controller.meaning c.self.inside.ctl) c.args.tick c.args.states.now c.args.references.now c.args.mail _ _ _ c.self.invariant
+    (kept_once_stepped Active (g.C.Controller.meaning c.self.inside.ctl) c.args.tick c.args.states.now
+    c.args.references.now c.args.mail _ _ _ c.self.invariant
     (rw (← c.self.view_is) at c.requires.counts))
 
 -- and took the step
@@ -17,7 +18,8 @@ pub returns : goal.returns
 returns g c =
     let ctl : CtlData = g.C.Controller.meaning c.self.inside.ctl in
     let step : Stepped = ctl_step ctl c.args.tick c.args.states.now c.args.references.now c.args.mail in
-    let same : update_step (g.C.Controller.meaning c.hand.new.ctl) c.args.tick c.args.states.now c.args.references.now ≡ step =
+    let same : update_step (g.C.Controller.meaning c.hand.new.ctl) c.args.tick c.args.states.now c.args.references.now
+    ≡ step =
     ap (λ (d : CtlData). update_step d c.args.tick c.args.states.now c.args.references.now) c.hand.ensures
     ∙ sym (step_is ctl c.args.tick c.args.states.now c.args.references.now c.args.mail) in
     let answer = c.update.ensures.answer ∙ ap (λ (st : Stepped). st.done) same in
@@ -27,6 +29,8 @@ returns g c =
       outputs = c.update.ensures.outputs ∙ ap (λ (st : Stepped). put_out st c.args.outs.now) same;
       width = omega (arith, c.update.auto.outs);
       answer = answer;
-      published = published_is Active ctl c.args.tick c.args.states.now c.args.references.now c.args.mail _ _ _ c.self.invariant (rw (← c.self.view_is) at c.requires.counts);
-      erred = λ e. erred_gives_none ctl c.args.tick c.args.states.now c.args.references.now c.args.mail (sym answer ∙ e);
+      published = published_is Active ctl c.args.tick c.args.states.now c.args.references.now c.args.mail _ _ _
+          c.self.invariant (rw (← c.self.view_is) at c.requires.counts);
+      erred = λ e. erred_gives_none ctl c.args.tick c.args.states.now c.args.references.now c.args.mail
+          (sym answer ∙ e);
     })

@@ -7,4 +7,5 @@ use Rattle.trace_text.proofs.names.Names.run.Goals as goal
 pub returns : goal.returns
 returns c =
     rw (← c.self.view_is)
-    ((rw (c.as_slice.ensures.value, c.self.invariant.0) at c.head_at.ensures) ∙ told_at run_head (map (λ r. r.now) c.self.inside.controllers.items) c.args.serial)
+    ((rw (c.as_slice.ensures.value, c.self.invariant.0) at c.head_at.ensures)
+    ∙ told_at run_head (map (λ r. r.now) c.self.inside.controllers.items) c.args.serial)

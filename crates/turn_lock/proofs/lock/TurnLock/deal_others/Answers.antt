@@ -12,5 +12,6 @@ loop-number-preserved g c =
       fresh = fresh_dealer _ _ _ d.first.1 i.fresh;
       keeps_count = ap (λ v. v.given) d.first.1 ∙ ap one_more i.keeps_count;
       count = omega (arith, ap length items, length-append c.loop-number.passes.items (c.deal.result ∷ []));
-      others = fresh_next _ _ _ _ _ items i.others (d.dealt.1 ∙ omega (arith, i.count)) d.dealt.0 (fresh_dealt _ _ _ d.dealt.2 i.fresh);
+      others = fresh_next _ _ _ _ _ items i.others (d.dealt.1 ∙ omega (arith, i.count)) d.dealt.0
+          (fresh_dealt _ _ _ d.dealt.2 i.fresh);
     }

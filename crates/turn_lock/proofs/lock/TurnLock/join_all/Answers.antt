@@ -2,7 +2,8 @@ use Rattle.std.proofs.Common.{◌≡◌, All, refl, sym, subst, ap, ◌∙◌, r
 use Rattle.turn_lock.specs.Passes.{IsReady}
 use Rattle.turn_lock.specs.Views.{joined}
 use Rattle.turn_lock.proofs.PassLemmas.{idle}
-use Rattle.turn_lock.proofs.FinishLemmas.{next_of, rest_of, moved_on, gathered, covers_self, covers_first, covers_next, joins_idle}
+use Rattle.turn_lock.proofs.FinishLemmas.{next_of, rest_of, moved_on, gathered, covers_self}
+use Rattle.turn_lock.proofs.FinishLemmas.{covers_first, covers_next, joins_idle}
 use Rattle.turn_lock.proofs.lock.TurnLock.join_all.Goals as goal
 
 pub loop-pass-init : goal.loop-pass-init
@@ -17,7 +18,8 @@ loop-pass-init g c =
       footing = refl;
       first = covers_self g.K.Kept.caller first.seat.me.0;
       so_far = λ k d lt. absurd (omega arith);
-      to_come = subst (All (IsReady c.args.self.now)) (sym items) (rest_of (IsReady c.args.self.now) _ _ first refl c.requires.ready);
+      to_come = subst (All (IsReady c.args.self.now)) (sym items)
+          (rest_of (IsReady c.args.self.now) _ _ first refl c.requires.ready);
       cut = items;
     }
 

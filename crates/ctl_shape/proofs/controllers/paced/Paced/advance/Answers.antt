@@ -14,8 +14,10 @@ returns-clause-next c =
       below = c.requires.below;
       no_longer = c.requires.no_longer;
     } in
-    let here : CanBeLed limits c.args.at limits.dt_us = subst (λ (l : Limits). CanBeLed l c.args.at l.dt_us) (sym pace) can in
-    let last : to_z w64 (of_z w64 c.micro.result) ≡ c.args.last = omega (arith, ints, c.micro.ensures.same, c.micro.ensures.range.0, c.micro.ensures.range.1) in
+    let here : CanBeLed limits c.args.at limits.dt_us =
+    subst (λ (l : Limits). CanBeLed l c.args.at l.dt_us) (sym pace) can in
+    let last : to_z w64 (of_z w64 c.micro.result) ≡ c.args.last =
+    omega (arith, ints, c.micro.ensures.same, c.micro.ensures.range.0, c.micro.ensures.range.1) in
     let fits = c.micro.ensures.range in
     subst (λ (l : Limits). IsLedTo l c.args.at c.args.last c.args.wanted c.advance.result) pace
     (leads_to limits c.self.inside.limiter c.args.at c.args.last c.args.wanted c.advance.result c.self.invariant here
