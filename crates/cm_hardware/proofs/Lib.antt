@@ -13,6 +13,7 @@ pub mod CycleLemmas
 pub mod ListLemmas
 pub mod StartLemmas
 pub mod MovedLemmas
+pub mod MovingLemmas
 pub mod MoveAtLemmas
 pub mod SameLemmas
 pub mod PresentLemmas

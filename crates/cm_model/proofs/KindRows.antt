@@ -226,7 +226,7 @@ a_mock_is_not_ready = refl
 a_mock_is_ready : is_ready_in mock 5 ≡ true
 a_mock_is_ready = refl
 
--- ---- Transmission: three turns of the actuator for one of the joint, which stands at 0.1 where the actuator stands at 0
+-- ---- Transmission: three turns of the actuator for one of the joint, which stands at 0.1 if the actuator is at 0
 
 abbrev geared : Params
 geared = Transmission Position (pos 3000000) (pos 100000)

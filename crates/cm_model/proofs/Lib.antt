@@ -5,6 +5,8 @@ pub mod StayLemmas
 pub mod HistoryLemmas
 pub mod WaitingLemmas
 pub mod ComesLemmas
+pub mod FollowedLemmas
+pub mod WholeRunLemmas
 pub mod WholeLemmas
 pub mod EnabledLemmas
 pub mod CountLemmas

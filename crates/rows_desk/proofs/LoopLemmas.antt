@@ -16,7 +16,7 @@ use Rattle.cm_model.specs.declared.reply.Reply.TheVariants as reply
 use Rattle.cm_model.proofs.CountLemmas.{ends_are_the_loops}
 use Rattle.cm_model.proofs.HistoryLemmas.{description_stays}
 use Rattle.cm_model.proofs.StayLemmas.{boundary-SameLoop, step-IsStep}
-use Rattle.cm_model.proofs.WholeLemmas.{own_entry}
+use Rattle.cm_model.proofs.FollowedLemmas.{own_entry}
 use Rattle.cm_desk.specs.Desk.{History, now_of, Grows, IsRight}
 use Rattle.cm_desk.proofs.LoopLemmas.{begins_where, closes_where}
 use Rattle.rows_desk.specs.Loops.{loop_console}

@@ -28,7 +28,7 @@ use Rattle.rt_flight.specs.declared.robot.Robot.{Robot}
 use Rattle.rt_flight.proofs.CycleLemmas.{components_flown, computed_is, equipped_after, flown_in_cycle}
 use Rattle.rt_flight.proofs.CycleLemmas.{has_flown, lines_after, lines_in, round_is, was_made}
 use Rattle.rt_flight.proofs.TurnLemmas.{all_by_posts, count_by, fitted_by, members_by}
-use Rattle.rt_flight.proofs.WayLemmas.{at_some, some_mapped}
+use Rattle.rt_flight.proofs.RoundLemmas.{at_some, some_mapped}
 
 -- where nobody flies
 pub none_there : {A : Type 0} (xs : List A) (b : Bool) → b ≡ (length xs == 0) → not b ≡ false → xs ≡ []

@@ -18,7 +18,8 @@ use Rattle.rt_flight.specs.Progress.{Progress, flying_in, round_in, shown}
 use Rattle.rt_flight.specs.UnderWay.{with_lent, HasBegunOf, IsDone, IsFlight, IsFresh, IsTurning, IsUnderWay}
 use Rattle.rt_flight.specs.declared.context.CycleContext.{CycleContext}
 use Rattle.rt_flight.proofs.PartsLemmas.{lent_back}
-use Rattle.rt_flight.proofs.WayLemmas.{all_turned, at_first, can_step, lent}
+use Rattle.rt_flight.proofs.WayLemmas.{all_turned, can_step, lent}
+use Rattle.rt_flight.proofs.RoundLemmas.{at_first}
 
 -- ---- What is shown
 

@@ -6,6 +6,7 @@ pub mod PostLemmas
 pub mod ApartLemmas
 pub mod CycleLemmas
 pub mod BegunLemmas
+pub mod RoundLemmas
 pub mod WayLemmas
 pub mod EndLemmas
 pub mod PartsLemmas

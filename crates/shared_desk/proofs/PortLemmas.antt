@@ -25,7 +25,7 @@ use Rattle.cm_model.specs.declared.reply.Reply.TheVariants as reply
 use Rattle.cm_model.proofs.CountLemmas.{ends_append, ends_are_the_loops}
 use Rattle.cm_model.proofs.HistoryLemmas.{description_stays}
 use Rattle.cm_model.proofs.StayLemmas.{boundary-SameLoop, step-IsStep}
-use Rattle.cm_model.proofs.WholeLemmas.{own_entry}
+use Rattle.cm_model.proofs.FollowedLemmas.{own_entry}
 use Rattle.rt_flight.specs.Flights.{FlightFacts}
 use Rattle.turn_lock.specs.declared.kept.Kept.{Ghosts}
 use Rattle.turn_lock.specs.declared.kept.Shown.{Shown}

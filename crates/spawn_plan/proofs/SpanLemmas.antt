@@ -110,7 +110,8 @@ module _ (c : CompDesc) where
       → (is_listed c.fail_read n ≡ false) × (write_runs life ≡ true → is_listed c.fail_write n ≡ false)
   fails_parts Inactive n up none = ((or_parts (is_listed c.fail_read n) false none).0, λ runs. cc)
   fails_parts Active n up none =
-      let parts = or_parts (is_listed c.fail_read n) (not (is_listed c.fail_read n) && is_listed c.fail_write n) none in (
+      let read = is_listed c.fail_read n in
+      let parts = or_parts read (not read && is_listed c.fail_write n) none in (
         parts.0,
         λ runs.
             elim (and_cases (not (is_listed c.fail_read n)) (is_listed c.fail_write n) parts.1) [

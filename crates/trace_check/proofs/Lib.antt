@@ -1,5 +1,6 @@
 pub mod LoopCallLemmas
 pub mod SessionStandLemmas
+pub mod StandLemmas
 pub mod NextLemmas
 pub mod LineStepLemmas
 pub mod ReplayLoopLemmas

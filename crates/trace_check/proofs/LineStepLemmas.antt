@@ -25,7 +25,8 @@ use Rattle.trace_laws.specs.Next.{caller_named, first_word, next_entry, entry_by
 use Rattle.trace_text.specs.OneByOne.{LinesFacts, with_name, with_line}
 use Rattle.trace_check.specs.Standing.{standing_from, progress_at, StandsAt, KnowsNames}
 use Rattle.trace_check.specs.Steps.{IsDescribed, made_next, HasMadeNext, named_by, with_load}
-use Rattle.trace_check.proofs.NextLemmas.{GoesSo, next_goes}
+use Rattle.trace_check.proofs.NextLemmas.{next_goes}
+use Rattle.trace_check.proofs.StandLemmas.{GoesSo}
 
 -- ---- Before the first line
 

@@ -27,7 +27,7 @@ use Rattle.trace_laws.specs.Told as told
 use Rattle.trace_check.specs.Standing.{standing_from, LoopStands, StandsAt}
 use Rattle.trace_check.specs.Steps.{HasReplayedLines}
 use Rattle.trace_check.specs.declared.fault.WrongLine.{WrongLine}
-use Rattle.trace_check.proofs.NextLemmas.{none_left, one_left}
+use Rattle.trace_check.proofs.StandLemmas.{none_left, one_left}
 
 abbrev as_judgement : Result (Unit {0}) told.WrongLine → Result (Unit {0}) told.WrongLine
 as_judgement judgement = judgement

@@ -1,6 +1,7 @@
 mod Rows
 mod ListLemmas
 mod RuleLemmas
+pub mod WordLemmas
 mod StepLemmas
 mod SeatLemmas
 mod PassLemmas

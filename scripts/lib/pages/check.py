@@ -6,7 +6,7 @@
 - The text of a fenced block stands in one source or example, blanks and ends of lines apart; so does each column of a
   block of columns.
 - A row of a table that ends with a constant has its number in the cell before. README has the line of `rt version`.
-- No line of a source of Rust or of a script is wider than 120 columns, and no public name of a library stands in two
+- No line of a source, a proof or a script is wider than 120 columns, and no public name of a library stands in two
   crates.
 - Each crate has a README, each example its place, and each crate its minutes in docs/SPEED.md.
 - No sentence, cell of a table or page is longer than its limit, and a number that is quoted with docs/SPEED.md stands
@@ -28,8 +28,8 @@ from .repository import Repository
 WIDEST = 120  # columns
 PUBLIC = re.compile(r"(?m)^pub (?:struct|enum|trait|const) (\w+)")
 PASSED_ON = re.compile(r"(?m)^pub use (\w+)::")
-APART = re.compile(r"\s*(//|#!?\[|(ghost )?(pub )?use )")  # lines that may be wider: comments, attributes, imports
-SCRIPTS = re.compile(r"scripts/.*\.py|(\.ci/|scripts/)?\w+")
+APART = re.compile(r'^\s*#!?\[|".{60,}"')  # lines that may be wider: attributes, which rt fmt joins, and long texts
+SOURCES = re.compile(r".*\.(rt|antt|py)|(\.ci/|scripts/)?\w+")
 
 
 def kit_missing():
@@ -55,10 +55,9 @@ def minutes_missing():
 
 def too_wide(repository):
     for name in repository.texts:
-        of_rust = name.endswith(".rt")
-        if of_rust or SCRIPTS.fullmatch(name):
+        if SOURCES.fullmatch(name):
             for number, line in enumerate((TOP / name).read_text().split("\n"), 1):
-                if len(line) > WIDEST and not (of_rust and APART.match(line)):
+                if len(line) > WIDEST and not APART.search(line):
                     yield f"{name}:{number}: is wider than {WIDEST} columns"
 
 
