@@ -25,10 +25,8 @@ def list_of_crates():
         HEAD
         + "The floors of the house, lowest first. A crate stands on floors below it, "
         + "and knows of each crate there its public\n"
-    )
-    made += (
-        "contract alone. `scripts/pages write` makes this page from `crates.txt`.\n\n![The floors, lowest "
-        "first](../docs/floors.svg)\n"
+        + "contract alone. `scripts/pages write` makes this page from `crates.txt`.\n\n"
+        + "![The floors, lowest first](../docs/floors.svg)\n"
     )
     for name, has, crates in floors():
         made += f"\n## {name}\n\n{has[0].upper()}{has[1:]}.\n\n| Crate | What it has |\n|---|---|\n"
