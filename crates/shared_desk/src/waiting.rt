@@ -12,16 +12,16 @@ use std::thread;
 use turn_lock::Shown;
 
 /// So many looks come first, with a yield of the thread after each: most of what is waited for comes soon.
-const LOOKS_WITH_YIELDS: u32 = 64;
+const LOOKS_WITH_YIELDS: u32 = 16;
 
 /// So many looks follow, with a sleep after each, a hundredth of a second in all. Whether the loop is closed is not
 /// published, so a turn finds that out then.
-const LOOKS_WITH_SLEEPS: u32 = 16;
+const LOOKS_WITH_SLEEPS: u32 = 9;
 
 /// The first sleep and the longest, in microseconds. Each is twice as long as the one before.
 const FIRST_SLEEP: u64 = 50;
 
-const LONGEST_SLEEP: u64 = 1_000;
+const LONGEST_SLEEP: u64 = 4_000;
 
 impl<C: Controller> SharedDesk<C> {
     /// Looks for a while until such a number, or a greater one, is published. It takes no turn.
