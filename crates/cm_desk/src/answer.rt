@@ -25,7 +25,7 @@ pub(crate) struct Answer<C> {
 }
 
 impl<C: Controller> Works<C> {
-    /// Answers a call of a session. Where memory ran out nothing has changed.
+    /// Answers a call of a session. If memory ran out nothing has changed.
     pub(crate) fn answer(&mut self, alloc: Global, call: &Call) -> Result<Answer<C>, Memory>
         requires { CanAnswer self.old call.now }
         ensures made { IfOk result
@@ -84,7 +84,7 @@ impl<C: Controller> Works<C> {
         }
     }
 
-    /// Answers a call that is no list, by the function of its name. Where memory ran out nothing has changed.
+    /// Answers a call that is no list, by the function of its name. If memory ran out nothing has changed.
     #[tactic(auto, using(crate::proofs::AnswerLemmas::load_reply_is_short, crate::proofs::AnswerLemmas::reply_on_is_short, crate::proofs::AnswerLemmas::request_reply_is_short))]
     fn change(&mut self, alloc: Global, call: &Call) -> Result<(Reply, Option<C>), Memory>
         requires { CanChange self.old call.now }
@@ -111,7 +111,7 @@ impl<C: Controller> Works<C> {
 }
 
 impl<C: Controller> Works<C> {
-    /// A request comes to wait under the next ticket, where the loop is open and fewer wait than can wait. Where memory
+    /// A request comes to wait under the next ticket, if the loop is open and fewer wait than can wait. If memory
     /// ran out nothing has changed.
     fn ask(&mut self, alloc: Global, request: Request) -> Result<Reply, Memory>
         ensures made { IfOk result

@@ -1,4 +1,4 @@
-//! The console's calls on one loaded controller. Where memory ran out nothing has changed.
+//! The console's calls on one loaded controller. If memory ran out nothing has changed.
 
 ghost use Rattle.std.specs.Prelude.{◌≡◌, ◌<◌, true, false, length, option_map, slice_get};
 ghost use Rattle.std.specs.Prelude.{Some, IsSomeAnd, IfOk, OnErr, MatchOption};

@@ -103,7 +103,7 @@ impl<C: Controller> Desk<C> {
         Ok((answer.reply, answer.given))
     }
 
-    /// What became of the request of a ticket, asked by a session. Where it is not decided, None, and nothing changes.
+    /// What became of the request of a ticket, asked by a session. If it is not decided, None, and nothing changes.
     /// Want of memory changes nothing either; a history that would have too many entries wants memory too.
     pub fn told(&mut self, alloc: Global, who: u32, ticket: u32) -> Result<Option<Outcome>, Memory>
         requires session { who < self.old.opening.sessions }
@@ -123,7 +123,7 @@ impl<C: Controller> Desk<C> {
         Ok(Some(told))
     }
 
-    /// Whether so many cycles have ended or the loop is closed, asked by a session, which goes on where it is so. Where
+    /// Whether so many cycles have ended or the loop is closed, asked by a session, which goes on if it is so. If
     /// not, nothing changes. Want of memory changes nothing either; a history that would have too many entries wants
     /// memory too.
     pub fn reached(&mut self, alloc: Global, who: u32, cycles: u64) -> Result<bool, Memory>
@@ -276,7 +276,7 @@ impl<C: Controller> Desk<C> {
     }
 }
 
-/// Room for the entries of one call: its own, the end of a cycle that is aloft, and the close. Where they would be too
+/// Room for the entries of one call: its own, the end of a cycle that is aloft, and the close. If they would be too
 /// many there is none.
 #[tactic(auto, using(crate::proofs::RecordLemmas::owed_few))]
 fn make_room(history: &mut Vec<Entry>) -> Result<(), Memory>

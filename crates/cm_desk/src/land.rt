@@ -67,7 +67,7 @@ fn bring_home<C: Controller>(
     record
 }
 
-/// Where something failed, those stop that the sets say, and those restart whose chained mode changes. It takes no
+/// If something failed, those stop that the sets say, and those restart whose chained mode changes. It takes no
 /// memory.
 fn settle<C: Controller>(
     slots: &mut Slots<C>,

@@ -53,7 +53,7 @@ impl<C: Controller> Works<C> {
         }))
     }
 
-    /// Whether an active controller claims one of the references of this one, whose description this is. Where the
+    /// Whether an active controller claims one of the references of this one, whose description this is. If the
     /// relations are at home they say it by place; while a cycle is aloft with them, names are compared.
     pub(crate) fn is_chained(&self, slot: &Slot<C>, controller: &CtlDesc) -> bool
         requires { slice_get self.now.description.controllers slot.now.place ≡ Some controller.now }

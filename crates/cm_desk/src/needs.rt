@@ -24,9 +24,9 @@ use std::alloc::Global;
 /// All that a cycle takes along, or works on, but for the hardware and the boxes.
 #[derive(Drop)]
 pub(crate) struct CycleNeeds {
-    /// The workspaces of those that fly, in the order of updates.
+    /// The workspaces of the controllers that run, in the order of updates.
     pub(crate) workspaces: Vec<Workspace>,
-    /// Who flies.
+    /// Which controllers run.
     pub(crate) order: Vec<Member>,
     /// Room for the serials of those whose update fails.
     pub(crate) erred: Vec<u32>,
@@ -122,8 +122,8 @@ pub(crate) fn prepare(
     )
 }
 
-/// The workspaces are those of these controllers, and it is known who they are: those that are there, where the same
-/// flew last, and else others.
+/// The workspaces are those of these controllers, and it is known who they are. If the same ran last, they are those
+/// that are there.
 fn fit_workspaces(
     alloc: Global,
     places: &CtlPlaces,

@@ -43,7 +43,7 @@ pub(crate) struct CycleResources {
     pub(crate) ending: Snapshot<Ending>,
     /// The mail that is aloft. It takes no byte either.
     pub(crate) mails: Snapshot<Vec<MailAloft>>,
-    /// Who flew last, as what works in a cycle has it at home. It takes no byte either.
+    /// Which controllers ran last, as what works in a cycle has it at home. It takes no byte either.
     pub(crate) members: Snapshot<Vec<Member>>,
     /// The places of the controllers whose update failed in the cycle that landed last, as what works in a cycle has
     /// them at home. It takes no byte either.
@@ -66,9 +66,9 @@ pub(crate) struct CycleResources {
 /// What cycles left over, for the next one.
 #[derive(Drop)]
 pub(crate) struct CycleBuffers {
-    /// The workspaces of those that flew last; none while a cycle is aloft.
+    /// The workspaces of the controllers that ran last; none while a cycle is aloft.
     pub(crate) workspaces: Vec<Workspace>,
-    /// Workspaces of controllers that do not fly, for when they fly again.
+    /// Workspaces of controllers that do not run, for when they run again.
     pub(crate) shelf: Vec<Workspace>,
     /// Room for the mail that goes aloft.
     pub(crate) mails: Vec<MailAloft>,

@@ -34,7 +34,7 @@ where
     ensures outside { IfOk result (MindsFaults
         (source_facts S.left S.faults source.old) (source_facts S.left S.faults source.new)
         (sink_facts K.taken K.flushed K.faults sink.old) (sink_facts K.taken K.flushed K.faults sink.new)) }
-    // Where blanks can't be had, nothing was read and nothing written.
+    // If blanks can't be had, nothing was read and nothing written.
     ensures kept { OnErr result ((source.new ≡ source.old) × (sink.new ≡ sink.old)) }
 {
     let blanks = boxed_blanks(rt.alloc(), BLANKS)?;

@@ -20,9 +20,9 @@ where
     R: Threads + Wait + Sync + AllocGlobal,
     S: Source,
     K: Sink,
-    // Where the words are not accepted, nothing was read.
+    // If the words are not accepted, nothing was read.
     ensures refused { result ≡ Status.BadWords → source.new ≡ source.old }
-    // Statuses 2 to 6 leave the sink as it was.
+    // Every status but `Ok`, `Memory` and `WriteFault` leaves the sink as it was.
     ensures untouched { ComesBeforeWriting result → sink.new ≡ sink.old }
     // Faults of reading and writing are told, and nothing else as one.
     ensures outside { MindsFaults

@@ -24,7 +24,7 @@ use std::marker::Model;
 use std::thread::Threads;
 
 /// How far a run has come: its desk, with the history, where each session stands, and the flight of the cycle that is
-/// aloft, where one is.
+/// aloft, if one is.
 #[derive(Drop)]
 pub struct RunningJob<C: Controller> {
     desk: Desk<C>,
@@ -99,7 +99,7 @@ impl<C: Controller> RunningJob<C> {
         settle_each(alloc, &mut self.sessions, &mut self.desk)
     }
 
-    /// The loop begins the cycle of this number, where it can.
+    /// The loop begins the cycle of this number, if it can.
     #[tactic(auto, unfolding(cm_model::specs::Scheduled::looped))]
     pub(crate) fn begin(&mut self, alloc: Global, number: u64) -> Result<(), Memory>
         ensures { OnOk result (GoesOn (looped (call.Begin number)) self.old self.new) }
@@ -135,7 +135,7 @@ impl<C: Controller> RunningJob<C> {
         self.desk.ended()
     }
 
-    /// The loop ends the cycle of this number, where it can.
+    /// The loop ends the cycle of this number, if it can.
     #[tactic(auto, unfolding(cm_model::specs::Scheduled::looped))]
     pub(crate) fn end(&mut self, number: u64)
         ensures { GoesOn (looped (call.End number)) self.old self.new }
@@ -155,7 +155,7 @@ impl<C: Controller> RunningJob<C> {
         self.desk.aloft() && self.desk.ended() == number
     }
 
-    /// The loop closes, where it can.
+    /// The loop closes, if it can.
     #[tactic(auto, unfolding(cm_model::specs::Scheduled::looped))]
     pub(crate) fn close(&mut self)
         ensures { GoesOn (looped call.Close) self.old self.new }
@@ -195,7 +195,7 @@ impl<C: Controller> RunningJob<C> {
         are_ended(self.sessions.as_slice()) && self.desk.closed()
     }
 
-    /// A turn, where it can be made.
+    /// A turn, if it can be made.
     pub fn turn(&mut self, alloc: Global, turn: &Turn) -> Result<(), Memory>
         ensures { OnOk result (GoesOn (turned turn.now) self.old self.new) }
     {
@@ -211,7 +211,7 @@ impl<C: Controller> RunningJob<C> {
     }
 }
 
-/// A flight that is out is computed by so many workers, where it was not started yet.
+/// A flight that is out is computed by so many workers, if it was not started yet.
 pub(crate) fn compute_by<R: Threads + Sync, C: Controller + Send>(
     rt: &R,
     job: &mut RunningJob<C>,
@@ -224,7 +224,7 @@ pub(crate) fn compute_by<R: Threads + Sync, C: Controller + Send>(
     }
 }
 
-/// A flight is computed, where it was not started yet.
+/// A flight is computed, if it was not started yet.
 fn compute_once<C: Controller>(flight: &mut Flight<C>)
     ensures { IsComputedOnce flight.old flight.new }
 {

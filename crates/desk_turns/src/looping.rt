@@ -32,19 +32,19 @@ pub(crate) trait Moves: Sized {
     fn settle_sessions(&mut self, alloc: Global) -> Result<(), Memory>
         ensures { OnOk result (GoesOn settle_all (facts self.old) (facts self.new)) };
 
-    /// The loop begins the cycle of this number, where it can.
+    /// The loop begins the cycle of this number, if it can.
     fn begin_cycle(&mut self, alloc: Global, number: u64) -> Result<(), Memory>
         ensures { OnOk result (GoesOn (looped (call.Begin number)) (facts self.old) (facts self.new)) };
 
-    /// The loop ends the cycle of this number, where it can.
+    /// The loop ends the cycle of this number, if it can.
     fn end_cycle(&mut self, number: u64)
         ensures { GoesOn (looped (call.End number)) (facts self.old) (facts self.new) };
 
-    /// The loop closes, where it can.
+    /// The loop closes, if it can.
     fn close_loop(&mut self)
         ensures { GoesOn (looped call.Close) (facts self.old) (facts self.new) };
 
-    /// A turn, where it can be made.
+    /// A turn, if it can be made.
     fn make_turn(&mut self, alloc: Global, turn: &Turn) -> Result<(), Memory>
         ensures { OnOk result (GoesOn (turned turn.now) (facts self.old) (facts self.new)) };
 }

@@ -8,7 +8,7 @@ use cm_model::LoopPort;
 use fixed_num::Memory;
 use outside_io::{Gate, Pace, Point};
 
-/// So many cycles, and then the close. Where a begin is refused memory the loop closes at once.
+/// So many cycles, and then the close. If a begin is refused memory the loop closes at once.
 #[tactic(auto, using(crate::proofs::LoopLemmas::closed_behind))]
 pub fn run_loop<L, C: Pace, G: Gate, F>(
     looping: &mut L,

@@ -20,7 +20,7 @@ use std::thread::{Threads, join_mut};
 
 /// Runs the loop and the sessions beside one another, each on a thread of its own where one can be made. Each session
 /// advances to its end; the loop makes so many cycles and then closes. The ports come back in the order of their
-/// sessions. Where a session is refused memory it stops, where a begin is refused memory the loop closes; the others go
+/// sessions. If a session is refused memory it stops, if a begin is refused memory the loop closes; the others go
 /// on to their end, and the ports are dropped.
 #[tactic(auto, using(crate::proofs::LoopLemmas::may_loop))]
 pub fn live<R, P, L, C, G>(

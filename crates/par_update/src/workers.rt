@@ -13,7 +13,7 @@ use std::thread::Threads;
 
 /// The cycle is made, of what the flight owns, as `Flight::compute` makes it; but so many workers, of which the
 /// caller's thread is one, share the controllers of each depth. A depth in which at most one controller is updated
-/// makes no thread. Where none can be made, the caller does the work; without workers, too. It may wait for its
+/// makes no thread. If none can be made, the caller does the work; without workers, too. It may wait for its
 /// workers.
 pub fn compute_by<R: Threads + Sync, C: Controller + Send>(
     rt: &R,

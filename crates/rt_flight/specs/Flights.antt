@@ -139,8 +139,8 @@ StaysComputed begun f = (s : State) → IsAlike s begun → IsComputed s f
 abbrev pub member_in : CellFacts → Member
 member_in c = record { serial = c.workspace.serial; place = c.workspace.place }
 
--- Computed or not, it is known who flies; each workspace is fitted; the sets of the end have a flag for each described
--- controller; there is room for the lists of its hardware; and for the serial of each controller that flies.
+-- Computed or not, it is known who runs; each workspace is fitted; the sets of the end have a flag for each described
+-- controller; there is room for the lists of its hardware; and for the serial of each controller that runs.
 pub record IsEquipped (cells : List CellFacts) (members : List Member) (g : Robot) (ending : Ending) (lists : Lists)
     (capacity : ℕ) : Type 0 where
   pub order : members ≡ map member_in cells

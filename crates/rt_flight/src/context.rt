@@ -1,4 +1,4 @@
-//! What flies besides the controllers.
+//! What a flight takes along besides the controllers.
 
 use crate::robot::Robot;
 use cm_hardware::Lists;
@@ -12,13 +12,13 @@ use stop_plan::Ending;
 pub struct CycleContext {
     /// What the controllers work on.
     pub robot: Robot,
-    /// The sets of the end of a cycle: who stops, stays and restarts, where something failed.
+    /// The sets of the end of a cycle: who stops, stays and restarts, if something failed.
     pub ending: Ending,
     /// Room for the lists of the hardware, which are written down as the cycle is computed.
     pub lists: Lists,
     /// The running controllers by serial and place, in the order of updates; at home those that ran last.
     pub order: Vec<Member>,
-    /// The serials of the controllers whose update failed, once the cycle is computed, with room for each that flies;
+    /// The serials of the controllers whose update failed, once the cycle is computed, with room for each that runs;
     /// at home those of the cycle that landed last.
     pub erred: Vec<u32>,
     /// Whether a component or an update failed.

@@ -30,7 +30,7 @@ pub struct Payload<C: Controller> {
     pub number: u64,
     /// The running controllers, in the order of updates.
     pub cells: Vec<Cell<C>>,
-    /// What works in the cycle, with who flies, and room to tell of it. Of what it has to tell of an earlier one
+    /// What works in the cycle, with who runs, and room to tell of it. Of what it has to tell of an earlier one
     /// nothing is kept.
     pub context: Box<CycleContext>,
 }
@@ -40,7 +40,7 @@ pub struct Payload<C: Controller> {
 pub struct Landing<C: Controller> {
     /// The running controllers.
     pub cells: Vec<Cell<C>>,
-    /// What worked in the cycle, and who flew.
+    /// What worked in the cycle, and who ran.
     pub context: Box<CycleContext>,
     /// The record of the cycle.
     pub record: CycleRecord,

@@ -6,8 +6,8 @@ ghost use Rattle.rt_flight.specs.Flights.{TellsNothing, IsBlank};
 use cm_storage::{CycleParts, CycleRecord, RecordRoom, Standing};
 
 /// The record of the cycle of this number, of what was told in its room. The room stays where it is if no controller
-/// flew and nothing else was told, or only bodies that stand; else it is taken, with the place of the record where
-/// nothing was told of those that flew. It takes no memory.
+/// runs and nothing else was told, or only bodies that stand; else it is taken, with the place of the record if
+/// nothing was told of those that run. It takes no memory.
 pub(crate) fn told(
     number: u64,
     flies: bool,
@@ -40,7 +40,7 @@ pub(crate) fn told(
     record
 }
 
-/// The record of a cycle in which no controller flew, if nothing but bodies that stand was told in its room. Nothing is
+/// The record of a cycle in which no controller runs, if nothing but bodies that stand was told in its room. Nothing is
 /// told there then any more. It takes no memory.
 fn told_again(
     number: u64,

@@ -1,5 +1,5 @@
-//! The line of a cycle in which nobody flies and the bodies stand: it is made of that of the cycle before, because its
-//! last two digits alone are others.
+//! The line of a cycle in which no controller runs and the bodies stand: it is made of that of the cycle before,
+//! because its last two digits alone are others.
 
 ghost use Rattle.std.specs.Prelude.{◌≡◌, ◌+◌, ◌-◌, ◌/◌, ◌%◌, ◌<◌, ◌≤◌, length};
 ghost use Rattle.std.specs.Prelude.{slice_set, IfOk, IfSome, IsSomeAnd, OnOk};

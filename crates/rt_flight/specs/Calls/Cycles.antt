@@ -17,8 +17,8 @@ use Rattle.rt_flight.specs.Cells.{CellFacts}
 use Rattle.rt_flight.specs.Flights.{member_in}
 use Rattle.rt_flight.specs.declared.robot.Robot.{Robot}
 
--- A cycle that was made leaves who flies, workspaces that are fitted, the robot but for its hardware, who stopped, and
--- the room for serials; and who ran, where nobody flies.
+-- A cycle that was made leaves who runs, workspaces that are fitted, the robot but for its hardware, who stopped, and
+-- the room for serials; and what is told of updates, if nobody runs.
 pub record LeavesFlight (cells cells' : List CellFacts) (g g' : Robot) (room room' : RecordRoom) (most most' : ℕ)
     : Type 0
   where
