@@ -1,10 +1,10 @@
 //! The program's stock, a box for each blank.
 
-ghost use Rattle.std.specs.Prelude.{◌≡◌, IfOk, OnErr};
-ghost use Rattle.cm_top.specs.Calls.Run.{source_facts, sink_facts, MindsFaults};
-ghost use Rattle.cm_top.specs.Status.{ComesBeforeWriting};
+ghost use Rattle.std.specs.Prelude.{◌≡◌, map, string_bytes, IfOk, OnErr};
+ghost use Rattle.cm_top.specs.Calls.Run.{source_facts, sink_facts};
 ghost use Rattle.cm_model.specs.Blanks.{blanks_of_each};
 ghost use Rattle.ctl_rack.specs.Stocks.{AreBlanks};
+ghost use Rattle.cm_program.specs.Ran.{RanWords};
 
 use cm_top::{Status, run};
 use ctl_any::boxed_blanks;
@@ -29,11 +29,8 @@ where
     R: Threads + Wait + Sync + AllocGlobal,
     S: Source,
     K: Sink,
-    ensures refused { IfOk result (λ status. status ≡ Status.BadWords → source.new ≡ source.old) }
-    ensures untouched { IfOk result (λ status. ComesBeforeWriting status → sink.new ≡ sink.old) }
-    ensures outside { IfOk result (MindsFaults
-        (source_facts S.left S.faults source.old) (source_facts S.left S.faults source.new)
-        (sink_facts K.taken K.flushed K.faults sink.old) (sink_facts K.taken K.flushed K.faults sink.new)) }
+    ensures ran { IfOk result (RanWords (source_facts S.left S.faults) (sink_facts K.taken K.flushed K.faults)
+        (map string_bytes words.now) (blanks_of_each BLANKS) source.old source.new sink.old sink.new) }
     // If blanks can't be had, nothing was read and nothing written.
     ensures kept { OnErr result ((source.new ≡ source.old) × (sink.new ≡ sink.old)) }
 {
@@ -56,11 +53,8 @@ where
     K: Sink,
     C: Controller + Send,
     requires { AreBlanks C.meaning blanks.items (blanks_of_each BLANKS) }
-    ensures refused { result ≡ Status.BadWords → source.new ≡ source.old }
-    ensures untouched { ComesBeforeWriting result → sink.new ≡ sink.old }
-    ensures outside { MindsFaults
-        (source_facts S.left S.faults source.old) (source_facts S.left S.faults source.new)
-        (sink_facts K.taken K.flushed K.faults sink.old) (sink_facts K.taken K.flushed K.faults sink.new) result }
+    ensures { RanWords (source_facts S.left S.faults) (sink_facts K.taken K.flushed K.faults)
+        (map string_bytes words.now) (blanks_of_each BLANKS) source.old source.new sink.old sink.new result }
 {
     let stock = Stock::make(blanks);
     let alloc = rt.alloc();

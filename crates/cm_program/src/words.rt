@@ -1,6 +1,9 @@
 //! The words that the program was started with.
 
-ghost use Rattle.std.specs.Prelude.{◌≡◌, ◌⊎◌, IfErr};
+ghost use Rattle.std.specs.Prelude.{◌≡◌, ◌⊎◌, ℕ, List, IfErr};
+ghost use Rattle.cm_model.specs.Blanks.{blanks_of_each};
+ghost use Rattle.cm_program.specs.Ran.{RanNothing, RanWords};
+ghost use Rattle.cm_program.specs.declared.stock.TheConstants.{BLANKS};
 ghost use Rattle.cm_top.specs.Calls.Run.{source_facts, sink_facts, MindsFaults};
 ghost use Rattle.cm_top.specs.Status.{ComesBeforeWriting};
 
@@ -20,6 +23,11 @@ where
     R: Threads + Wait + Sync + AllocGlobal,
     S: Source,
     K: Sink,
+    // Some words ran as is promised of them, or else nothing did. Which words the system tells, no clause says.
+    ensures ran { ((words : List (List ℕ)) × RanWords
+        (source_facts S.left S.faults) (sink_facts K.taken K.flushed K.faults)
+        words (blanks_of_each BLANKS) source.old source.new sink.old sink.new result)
+        ⊎ RanNothing source.old source.new sink.old sink.new result }
     // If the words are not accepted, nothing was read.
     ensures refused { result ≡ Status.BadWords → source.new ≡ source.old }
     // Every status but `Ok`, `Memory` and `WriteFault` leaves the sink as it was.

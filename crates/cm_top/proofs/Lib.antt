@@ -6,4 +6,3 @@ pub mod AnswerLemmas
 pub mod LiveLemmas
 pub mod TracedLemmas
 pub mod BytesLemmas
-pub mod BehindLemmas

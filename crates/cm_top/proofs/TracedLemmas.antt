@@ -13,8 +13,9 @@ use Rattle.cm_document.specs.declared.faults.DocumentFault.{DocumentFault}
 use Rattle.cm_document.specs.declared.faults.DocumentFault.TheVariants as fault
 use Rattle.cm_document.specs.declared.faults.ScriptFault.TheVariants.{BadLine}
 use Rattle.cm_document.specs.declared.script.Script.{Script}
-use Rattle.cm_top.specs.Calls.Parts.{DividesTwice}
-use Rattle.cm_top.specs.Traced.{Given, behind_of, trace_in, traced, with_trace, without_trace}
+use Rattle.cm_top.specs.Calls.Parts.{Divides, DividesTwice}
+use Rattle.cm_top.specs.Traced.{Cut, Given, behind_of, is_trace_separator, trace_in, traced}
+use Rattle.cm_top.specs.Traced.{with_trace, without_trace}
 
 -- the reading of a description, and of a script behind so many lines
 abbrev pub described_by : List ℕ → Result Description DocumentFault
@@ -111,37 +112,31 @@ pub trace_within : (n : ℕ) (o : Option (List ℕ)) (text : List ℕ) → o ≡
     → length text ≤ n
 trace_within n o text there fits = subst (λ (o : Option (List ℕ)). unwrap_or (option_map length o) 0 ≤ n) there fits
 
--- the length of a text that may be there, seen either way
-pub length_of : {A : Type 0} (view : A → List ℕ) (o : Option A)
-    → unwrap_or (option_map length (option_map view o)) 0 ≡ unwrap_or (option_map (λ t. length (view t)) o) 0
-length_of view None = refl
-length_of view (Some t) = refl
-
-pub unseen : {A : Type 0} (view : A → List ℕ) (o : Option A) → option_map view o ≡ None → o ≡ None
-unseen view None none = refl
-unseen view (Some t) none = cc
-
 -- ---- Divided at both separators
 
 pub divides_behind : (bytes description text script : List ℕ) (lines behind : ℕ) (trace : Option (List ℕ))
     → description ≡ (parts_of bytes).description → lines ≡ (parts_of bytes).lines
     → Some text ≡ (parts_of bytes).script → lines + length text ≤ length bytes
-    → length (raw_lines bytes) ≡ lines + (1 + length (raw_lines text)) → script ≡ (behind_of text).script
-    → trace ≡ (behind_of text).trace → (trace ≡ None → behind ≡ length (raw_lines text))
-    → behind ≤ length (raw_lines text) → length script + unwrap_or (option_map length trace) 0 ≤ length text
+    → length (raw_lines bytes) ≡ lines + (1 + length (raw_lines text))
+    → Divides is_trace_separator text script behind trace
     → DividesTwice bytes description lines (Some script) trace (lines + 1 + behind)
-divides_behind bytes description text script lines behind trace described lined there sized counted said traced_so all
-    few fits = record {
-      description_is = described;
-      lines_are = lined;
-      script_is = ap (λ (t : List ℕ). Some t) said
-          ∙ ap (λ (o : Option (List ℕ)). option_map (λ t. (behind_of t).script) o) there;
-      trace_is = traced_so ∙ ap (λ (o : Option (List ℕ)). option_and_then (λ t. (behind_of t).trace) o) there;
-      counted = λ none. let last = all none in omega (arith, last, counted);
-      fits = omega (arith, sized, fits);
-      trace_fits = omega (arith, sized, fits);
-      few = let within = raw_lines_within bytes in omega (arith, within, counted, few);
-    }
+unfolding behind_of
+divides_behind bytes description text script lines behind trace described lined there sized counted divides = record {
+  description_is = described;
+  lines_are = lined;
+  script_is = ap (λ (cut : Cut). Some cut.before) (sym divides.cut)
+      ∙ ap (λ (o : Option (List ℕ)). option_map (λ t. (behind_of t).before) o) there;
+  trace_is = ap (λ (cut : Cut). cut.behind) (sym divides.cut)
+      ∙ ap (λ (o : Option (List ℕ)). option_and_then (λ t. (behind_of t).behind) o) there;
+  counted = λ none.
+      let all = subst
+      (λ (o : Option (List ℕ)). length (raw_lines text)
+      ≡ behind + unwrap_or (option_map (λ t. 1 + length (raw_lines t)) o) 0) none divides.counted in
+      omega (arith, all, counted);
+  fits = omega (arith, sized, divides.fits);
+  trace_fits = omega (arith, sized, divides.fits);
+  few = let within = raw_lines_within bytes in omega (arith, within, counted, divides.counted);
+}
 
 pub divides_none : (bytes description : List ℕ) (lines : ℕ) → description ≡ (parts_of bytes).description
     → lines ≡ (parts_of bytes).lines → None ≡ (parts_of bytes).script → lines ≤ length bytes
@@ -149,8 +144,8 @@ pub divides_none : (bytes description : List ℕ) (lines : ℕ) → description 
 divides_none bytes description lines described lined there within counted = record {
   description_is = described;
   lines_are = lined;
-  script_is = ap (λ (o : Option (List ℕ)). option_map (λ t. (behind_of t).script) o) there;
-  trace_is = ap (λ (o : Option (List ℕ)). option_and_then (λ t. (behind_of t).trace) o) there;
+  script_is = ap (λ (o : Option (List ℕ)). option_map (λ t. (behind_of t).before) o) there;
+  trace_is = ap (λ (o : Option (List ℕ)). option_and_then (λ t. (behind_of t).behind) o) there;
   counted = λ none. sym counted;
   fits = omega (arith, within);
   trace_fits = omega arith;

@@ -4,39 +4,52 @@ use Rattle.std.specs.Prelude.{Option, Some, None, option_map, option_and_then, R
 use Rattle.std.specs.Cmp.Lexicographic.{pointwise}
 use Rattle.cm_document.specs.Document.{document_of}
 use Rattle.cm_document.specs.Grammars.{whole_grammar}
-use Rattle.cm_document.specs.Lines.{bare, joined, raw_lines, Parts, parts_of}
+use Rattle.cm_document.specs.Lines.{bare, is_separator, joined, raw_lines, Parts, parts_of}
 use Rattle.cm_document.specs.Reading.{◌>>=◌}
 use Rattle.cm_document.specs.declared.document.Document.{Document}
 use Rattle.cm_document.specs.declared.faults.DocumentFault.{DocumentFault}
 use Rattle.cm_document.specs.declared.faults.DocumentFault.TheVariants as fault
 use Rattle.cm_document.specs.declared.faults.ScriptFault.TheVariants.{BadLine}
+use Rattle.cm_top.specs.declared.parts.Separator.{Separator}
+use Rattle.cm_top.specs.declared.parts.Separator.TheVariants as separator
 
 -- the line between the script and the trace
 abbrev pub is_trace_separator : List ℕ → Bool
 is_trace_separator line = pointwise nat_eq (bare line) (codes "--- trace ---")
 
--- What stands behind the separator of the script: the script, and the trace if its own separator stands.
-pub record Behind : Type 0 where
-  pub script : List ℕ
-  pub trace : Option (List ℕ)
+-- this line is the separator
+abbrev pub separates : Separator → List ℕ → Bool
+separates separator.Script = is_separator
+separates separator.Trace = is_trace_separator
 
--- these lines divided at the first separator of a trace
-abbrev pub behind_of_lines : List (List ℕ) → Behind
-behind_of_lines [] = record { script = []; trace = None }
-behind_of_lines (line ∷ lines) =
-    if is_trace_separator line then record { script = []; trace = Some (joined lines) }
-    else (let rest = behind_of_lines lines in record { script = line ++ rest.script; trace = rest.trace })
+-- A text divided at a line: the bytes before it, how many lines they are, and the bytes behind it, if it stands.
+pub record Cut : Type 0 where
+  pub before : List ℕ
+  pub lines : ℕ
+  pub behind : Option (List ℕ)
 
-unfoldable pub behind_of : List ℕ → Behind
-behind_of text = behind_of_lines (raw_lines text)
+-- these lines divided at the first that is a separator
+abbrev pub cut_lines : (List ℕ → Bool) → List (List ℕ) → Cut
+cut_lines is [] = record { before = []; lines = 0; behind = None }
+cut_lines is (line ∷ lines) =
+    if is line then record { before = []; lines = 0; behind = Some (joined lines) }
+    else (let rest = cut_lines is lines in record {
+      before = line ++ rest.before;
+      lines = rest.lines + 1;
+      behind = rest.behind;
+    })
+
+-- What stands behind the separator of a script, divided at the first separator of a trace: the script, and the trace.
+unfoldable pub behind_of : List ℕ → Cut
+behind_of text = cut_lines is_trace_separator (raw_lines text)
 
 -- the parts of a document whose script ends before the trace
 abbrev pub without_trace : Parts → Parts
-without_trace parts = record parts { script = option_map (λ text. (behind_of text).script) parts.script }
+without_trace parts = record parts { script = option_map (λ text. (behind_of text).before) parts.script }
 
 -- the trace in these parts, if it stands
 abbrev pub trace_in : Parts → Option (List ℕ)
-trace_in parts = option_and_then (λ text. (behind_of text).trace) parts.script
+trace_in parts = option_and_then (λ text. (behind_of text).behind) parts.script
 
 -- What the bytes of a job without a book are accepted as: a document, and the trace behind its script; of a job that
 -- reads no trace none.

@@ -1,25 +1,24 @@
 //! The parts of a document.
 
-ghost use Rattle.std.specs.Prelude.{◌≡◌, ◌+◌, ◌≤◌, length, None, option_map, unwrap_or};
-ghost use Rattle.cm_document.specs.Lines.{is_separator, parts_of, raw_lines};
-ghost use Rattle.cm_top.specs.Calls.Parts.{DividesTwice};
-ghost use Rattle.cm_top.specs.Traced.{behind_of, is_trace_separator};
+ghost use Rattle.std.specs.Prelude.{◌≡◌, ◌+◌, ◌≤◌, length, option_map, unwrap_or};
+ghost use Rattle.cm_document.specs.Lines.{parts_of, raw_lines};
+ghost use Rattle.cm_top.specs.Calls.Parts.{Divides, DividesTwice};
+ghost use Rattle.cm_top.specs.Traced.{separates};
 
 use script_text::{bare_line, first_line};
 
 /// A document divided at its separator, none of it copied.
 #[derive(Clone, Copy, Debug)]
 pub struct Divided<'a> {
-    /// The bytes before the separator; all of them where there is none.
+    /// The bytes before the separator; all of them if there is none.
     pub description: &'a [u8],
     /// How many lines the description is.
     pub lines: usize,
-    /// The bytes after the separator, where it stands.
+    /// The bytes behind the separator, if it stands.
     pub script: Option<&'a [u8]>,
 }
 
 /// Divides a document at its separator, the first line that is one.
-#[tactic(auto, using(crate::proofs::PartsLemmas::dividing))]
 pub fn divide(bytes: &[u8]) -> Divided<'_>
     ensures description { result.description.now ≡ (parts_of bytes.now).description }
     ensures lines { result.lines ≡ (parts_of bytes.now).lines }
@@ -28,68 +27,11 @@ pub fn divide(bytes: &[u8]) -> Divided<'_>
         × (length (raw_lines bytes.now)
         ≡ result.lines + unwrap_or (option_map (λ t. 1 + length (raw_lines t.now)) result.script) 0) }
 {
-    let mut lines = 0;
-    let mut rest = bytes;
-    while !rest.is_empty() {
-        let (line, more) = first_line(rest);
-        if separates(line) {
-            let (description, _) = bytes.split_at(bytes.len() - rest.len());
-            return Divided {
-                description,
-                lines,
-                script: Some(more),
-            };
-        }
-        lines += 1;
-        rest = more;
-    }
+    let cut = cut_at(bytes, Separator::Script);
     Divided {
-        description: bytes,
-        lines,
-        script: None,
-    }
-}
-
-/// What stands behind the separator of the script, none of it copied.
-#[derive(Clone, Copy, Debug)]
-pub struct Behind<'a> {
-    /// The bytes before the separator of the trace; all of them if there is none.
-    pub script: &'a [u8],
-    /// How many lines these are.
-    pub lines: usize,
-    /// The bytes behind that separator, if it stands.
-    pub trace: Option<&'a [u8]>,
-}
-
-/// Divides what stands behind the separator of the script at the first separator of a trace.
-#[tactic(auto, using(crate::proofs::BehindLemmas::behind_lines))]
-pub fn divide_behind(bytes: &[u8]) -> Behind<'_>
-    ensures script { result.script.now ≡ (behind_of bytes.now).script }
-    ensures trace { option_map (λ t. t.now) result.trace ≡ (behind_of bytes.now).trace }
-    ensures lines { (result.trace ≡ None → result.lines ≡ length (raw_lines bytes.now))
-        × (result.lines ≤ length (raw_lines bytes.now)) }
-    ensures fits { length result.script.now + unwrap_or (option_map (λ t. length t.now) result.trace) 0
-        ≤ length bytes.now }
-{
-    let mut lines = 0;
-    let mut rest = bytes;
-    while !rest.is_empty() {
-        let (line, more) = first_line(rest);
-        if separates_trace(line) {
-            let (script, _) = bytes.split_at(bytes.len() - rest.len());
-            return Behind {
-                script,
-                lines,
-                trace: Some(more),
-            };
-        }
-        lines += 1;
-        rest = more;
-    }
-    Behind {
-        script: bytes,
-        lines,
-        trace: None,
+        description: cut.before,
+        lines: cut.lines,
+        script: cut.behind,
     }
 }
 
@@ -117,12 +59,12 @@ pub fn divide_twice(bytes: &[u8]) -> Thirds<'_>
     let parts = divide(bytes);
     match parts.script {
         Some(text) => {
-            let behind = divide_behind(text);
+            let behind = cut_at(text, Separator::Trace);
             Thirds {
                 description: parts.description,
                 lines: parts.lines,
-                script: Some(behind.script),
-                trace: behind.trace,
+                script: Some(behind.before),
+                trace: behind.behind,
                 all_lines: parts.lines + 1 + behind.lines,
             }
         }
@@ -136,16 +78,63 @@ pub fn divide_twice(bytes: &[u8]) -> Thirds<'_>
     }
 }
 
-/// Whether this line is the separator of a trace.
-fn separates_trace(line: &[u8]) -> bool
-    ensures { result ≡ is_trace_separator line.now }
-{
-    bare_line(line) == b"--- trace ---".as_slice()
+/// A line that divides a document.
+#[derive(Clone, Copy, Debug)]
+enum Separator {
+    /// The one between the description and the script.
+    Script,
+    /// The one between the script and the trace.
+    Trace,
 }
 
-/// Whether this line is the separator.
-fn separates(line: &[u8]) -> bool
-    ensures { result ≡ is_separator line.now }
+impl Separator {
+    /// Whether this line is the separator.
+    fn is(self, line: &[u8]) -> bool
+        ensures { result ≡ separates self line.now }
+    {
+        let bare = bare_line(line);
+        match self {
+            Separator::Script => bare == b"--- script ---".as_slice(),
+            Separator::Trace => bare == b"--- trace ---".as_slice(),
+        }
+    }
+}
+
+/// A text divided at a line, none of it copied.
+#[derive(Clone, Copy, Debug)]
+struct Cut<'a> {
+    /// The bytes before the line; all of them if there is none.
+    before: &'a [u8],
+    /// How many lines these are.
+    lines: usize,
+    /// The bytes behind the line, if it stands.
+    behind: Option<&'a [u8]>,
+}
+
+/// Divides a text at the first line that is this separator.
+#[tactic(auto, using(crate::proofs::PartsLemmas::dividing))]
+fn cut_at(bytes: &[u8], separator: Separator) -> Cut<'_>
+    ensures { Divides (separates separator) bytes.now result.before.now result.lines
+        (option_map (λ t. t.now) result.behind) }
 {
-    bare_line(line) == b"--- script ---".as_slice()
+    let mut lines = 0;
+    let mut rest = bytes;
+    while !rest.is_empty() {
+        let (line, more) = first_line(rest);
+        if separator.is(line) {
+            let (before, _) = bytes.split_at(bytes.len() - rest.len());
+            return Cut {
+                before,
+                lines,
+                behind: Some(more),
+            };
+        }
+        lines += 1;
+        rest = more;
+    }
+    Cut {
+        before: bytes,
+        lines,
+        behind: None,
+    }
 }

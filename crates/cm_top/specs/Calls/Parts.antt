@@ -1,7 +1,15 @@
--- What dividing a document at both separators comes to.
-use Rattle.std.specs.Prelude.{◌≡◌, ℕ, ◌+◌, ◌≤◌, List, length, Option, None, option_map, unwrap_or}
+-- What dividing a document at its separators comes to.
+use Rattle.std.specs.Prelude.{◌≡◌, ℕ, ◌+◌, ◌≤◌, Bool, List, length, Option, None, option_map, unwrap_or}
 use Rattle.cm_document.specs.Lines.{parts_of, raw_lines}
-use Rattle.cm_top.specs.Traced.{trace_in, without_trace}
+use Rattle.cm_top.specs.Traced.{cut_lines, trace_in, without_trace}
+
+-- A text was divided at the first line that is this separator, into what is before it, of so many lines, and what is
+-- behind it. No byte is counted twice, nor is a line.
+pub record Divides (is : List ℕ → Bool) (text before : List ℕ) (lines : ℕ) (behind : Option (List ℕ)) : Type 0 where
+  pub cut : cut_lines is (raw_lines text) ≡ record { before = before; lines = lines; behind = behind }
+  pub fits : length before + unwrap_or (option_map length behind) 0 ≤ length text
+  pub few : lines ≤ length before
+  pub counted : length (raw_lines text) ≡ lines + unwrap_or (option_map (λ t. 1 + length (raw_lines t)) behind) 0
 
 -- A document was divided into its description, of so many lines, its script and its trace; without a trace it has so
 -- many lines in all.

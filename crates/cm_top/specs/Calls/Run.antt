@@ -71,7 +71,7 @@ pub record CanRunAlone (job : Job) : Type 0 where
 pub record SparesAlone {S K : Type 0} (job : Job) (ended : Status) (source source' : S) (sink sink' : K) : Type 0 where
   -- a made document is not read
   pub unread : IfSome job.make (λ _. source' ≡ source)
-  -- statuses 3 to 6 leave the sink as it was
+  -- only with `Ok`, a want of memory or a fault of writing may the sink be another
   pub untouched : ComesBeforeWriting ended → sink' ≡ sink
 
 -- the words ask for a live run
@@ -84,7 +84,7 @@ pub record Spares {S K P : Type 0} (words : List (List ℕ)) (ended : Status) (s
     (pace pace' : P) : Type 0 where
   -- a made document is not read
   pub unread : IfOk (asked words) (λ job. IfSome job.make (λ _. source' ≡ source))
-  -- statuses 2 to 6 leave the sink as it was
+  -- only with `Ok`, a want of memory or a fault of writing may the sink be another
   pub untouched : ComesBeforeWriting ended → sink' ≡ sink
   -- nothing is paced but a live run
   pub unpaced : ¬ (AskForLive (asked words)) → pace' ≡ pace

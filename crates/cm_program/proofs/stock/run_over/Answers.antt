@@ -1,10 +1,16 @@
+use Rattle.std.proofs.Common.{◌∙◌}
+use Rattle.cm_program.proofs.RanLemmas.{ran_words}
 use Rattle.cm_program.proofs.stock.run_over.Goals as goal
 
--- words that are told as refused ask for no job, so nothing was read
-pub returns-in-Some-clause-refused : goal.returns-in-Some-clause-refused
-returns-in-Some-clause-refused g c =
-    λ refused. c.run-status.ensures.words.nothing_read (c.run-status.ensures.words.alone refused)
+-- the stock is of the blanks, and the words ran over it
+pub returns-in-Some : goal.returns-in-Some
+returns-in-Some g c =
+    let ran = c.run-status.ensures in
+    ran_words _ _ _ _ _ _ _ _ _ _ _ _ (c.make.ensures ∙ c.requires.counted) ran.words ran.runs ran.spared.untouched
+    ran.outside
 
-pub returns-in_default-clause-refused : goal.returns-in_default-clause-refused
-returns-in_default-clause-refused g c =
-    λ refused. c.run-status.ensures.words.nothing_read (c.run-status.ensures.words.alone refused)
+pub returns-in_default : goal.returns-in_default
+returns-in_default g c =
+    let ran = c.run-status.ensures in
+    ran_words _ _ _ _ _ _ _ _ _ _ _ _ (c.make.ensures ∙ c.requires.counted) ran.words ran.runs ran.spared.untouched
+    ran.outside

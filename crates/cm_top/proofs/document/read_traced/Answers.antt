@@ -3,7 +3,8 @@ use Rattle.std.specs.Prelude.{option_map}
 use Rattle.std.proofs.lemmas.Result.{err_from_is_err_and}
 use Rattle.cm_top.proofs.TopLemmas.{traced-Rules}
 use Rattle.cm_top.proofs.TracedLemmas.{traced_whole, traced_without, traced_description}
-use Rattle.cm_top.proofs.TracedLemmas.{traced_script, trace_within, length_of}
+use Rattle.cm_top.proofs.PartsLemmas.{length_of}
+use Rattle.cm_top.proofs.TracedLemmas.{traced_script, trace_within}
 use Rattle.cm_top.proofs.document.read_traced.Goals as goal
 
 -- lines have numbers of 32 bits
