@@ -1,5 +1,5 @@
-//! The run of an accepted document on one thread: its job is made, its trace or summary written, and its book handed
-//! out.
+//! The run of an accepted document on one thread or by several workers: its job is made, its trace or summary written,
+//! and its book handed out.
 
 ghost use Rattle.std.specs.Prelude.{◌≡◌, ◌≢◌, ◌⊎◌, option_map, true, Err, IfOk, None, OnErr, OnOk, Some};
 ghost use Rattle.std.specs.Io.KnownBytes.{Appends, Keeps};
