@@ -57,6 +57,7 @@ abbrev pub begun_among : Option State → List Moment → Option State
 begun_among begun [] = begun
 begun_among begun (moment ∷ moments) = begun_among (aloft_after begun moment moment.call) moments
 
+-- that of a whole history
 abbrev pub begun_of : History → Option State
 begun_of h = begun_among None (moments h.opening h.made)
 

@@ -41,6 +41,7 @@ pub fn read_document(alloc: Global, bytes: &[u8]) -> Result<Document, DocumentFa
 /// A document with the trace that stands behind its script.
 #[derive(Drop)]
 pub struct Traced<'a> {
+    /// The description with its script.
     pub document: Document,
     /// All bytes behind the separator of the trace.
     pub trace: &'a [u8],

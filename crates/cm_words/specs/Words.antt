@@ -123,6 +123,7 @@ job_with kind (Ok make) (Ok workers) = Ok (record { kind = kind; make = make; wo
 job_with kind (Ok make) (Err fault) = Err fault
 job_with kind (Err fault) workers = Err fault
 
+-- the job that these words ask for: the word of a kind, and what its options say
 abbrev pub job_of : Option JobKind → Option Text → Option Text → Result Job WordsFault
 job_of None make workers = Err Usage
 job_of (Some kind) make workers = job_with kind (rounds_asked kind make) (workers_asked kind workers)

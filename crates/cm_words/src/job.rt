@@ -32,6 +32,7 @@ pub enum JobKind {
 /// What words ask for.
 #[derive(Clone, Copy, Debug, PartialEq, Eq)]
 pub struct Job {
+    /// What is done.
     pub kind: JobKind,
     /// Of how many rounds the document is made that is run, from 1 to `MOST_ROUNDS`. Without it the document is read.
     /// An upgrade, a check and a plan have none.

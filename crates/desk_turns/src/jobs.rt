@@ -49,7 +49,7 @@ impl<C: Controller> RunningJob<C> {
     ghost use Rattle.std.specs.Prelude.{◌&&◌};
     ghost use Rattle.desk_turns.specs.Jobs.{GoesOn, looped_on};
 
-    /// No session has made a line yet.
+    /// A job over a desk at boot, with the script's sessions before their first lines.
     #[tactic(auto, unfolding(cm_model::specs::Scheduled::start))]
     pub fn start(
         alloc: Global,

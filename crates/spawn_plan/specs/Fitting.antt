@@ -46,7 +46,7 @@ fits d places cycle = list_all (can_start d cycle) places
 unfoldable pub first_fit : Description → List ℕ → Option ℕ
 first_fit d places = find (fits d places) (range_with_len 0 d.cycles)
 
--- The cycle with which these start: the first that fits. None of them waits for no cycle.
+-- The cycle with which these start: the first that fits. If there are none, no cycle is awaited.
 abbrev pub start_of : Description → List ℕ → Result ℕ SpawnFault
 start_of d [] = Ok 0
 start_of d (place ∷ places) =

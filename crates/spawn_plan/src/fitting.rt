@@ -15,7 +15,7 @@ use fixed_num::Memory;
 use std::alloc::Global;
 use switch_plan::Relations;
 
-/// The cycle with which these start: the first that fits. None of them waits for no cycle.
+/// The cycle with which these start: the first that fits. If there are none, no cycle is awaited.
 pub fn start_of(
     alloc: Global,
     checked: &Checked,

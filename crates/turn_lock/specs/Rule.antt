@@ -26,9 +26,11 @@ pub record LockState (E : Type 0) : Type 0 where
   pub tickets : ℕ
 
 module _ {E : Type 0} where
+  -- the published number
   abbrev pub value : Shown → LockState E → ℕ
   value which t = pick which t.cycles t.tickets
 
+  -- the same lock, which publishes this number
   abbrev pub with_value : Shown → ℕ → LockState E → LockState E
   with_value which n t = record t { cycles = pick which n t.cycles; tickets = pick which t.tickets n }
 
@@ -55,6 +57,7 @@ module _ {E : Type 0} where
     pub current : k.owes ≡ false → shown seen ≤ published
     pub owes : k.owes ≡ true → holds ≡ true
 
+-- 1 if there is one, else 0
 abbrev pub one_if_some : Option ℕ → ℕ
 one_if_some None = 0
 one_if_some (Some n) = 1

@@ -17,6 +17,7 @@ has_slot [] = false
 has_slot (x ∷ []) = (x.0 == 0) && is_emptied x.1
 has_slot (x ∷ y ∷ xs) = false
 
+-- the list has nothing
 abbrev pub is_nil : {A : Type 0} → List A → Bool
 is_nil [] = true
 is_nil (x ∷ xs) = false

@@ -59,5 +59,6 @@ module _ {K E G : Type 0} where
       pub grows : (known which me.0).number ≤ found
       pub current : (known which me.0).owes ≡ false → m.shown which me.0.seen ≤ found
 
+    -- a load of a published number, by the word that was loaded
     abbrev pub loads : Step (Spot K) → Me (Spot K) (SeatView E G) → ℕ → Me (Spot K) (SeatView E G) → Type 0
     loads step me found after = (which : Shown) → step.word ≡ atomic_word_of which → Loads which me found after

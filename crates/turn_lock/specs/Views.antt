@@ -9,10 +9,12 @@ use Rattle.turn_lock.specs.Entries.{pick}
 abbrev pub unknown : Known
 unknown = record { number = 0; owes = false }
 
+-- a count that may be unknown, and one more
 abbrev pub one_more : Option ℕ → Option ℕ
 one_more None = None
 one_more (Some n) = Some (n + 1)
 
+-- the number, if there is one
 abbrev pub if_any : Option ℕ → List ℕ
 if_any None = []
 if_any (Some n) = n ∷ []
@@ -21,6 +23,7 @@ if_any (Some n) = n ∷ []
 abbrev pub longer : {E : Type 0} → List E → List E → List E
 longer xs ys = cond (ltb (length xs) (length ys)) ys xs
 
+-- the first count, or the second if the first is none
 abbrev pub either_count : Option ℕ → Option ℕ → Option ℕ
 either_count None b = b
 either_count (Some n) b = Some n
@@ -34,6 +37,7 @@ module _ {E G : Type 0} where
   abbrev pub known : Shown → SeatView E G → Known
   known which v = pick which v.cycles v.tickets
 
+  -- the same seat, which knows this of that published number
   abbrev pub with_known : Shown → Known → SeatView E G → SeatView E G
   with_known which k v = record v { cycles = pick which k v.cycles; tickets = pick which v.tickets k }
 

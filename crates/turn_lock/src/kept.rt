@@ -3,7 +3,9 @@
 /// The two numbers of a list of entries that a lock publishes, so that they are read without a turn.
 #[derive(Clone, Copy, Debug, PartialEq, Eq)]
 pub enum Shown {
+    /// How many cycles have ended.
     Cycles,
+    /// How many requests are decided.
     Tickets,
 }
 

@@ -175,6 +175,7 @@ DoesJob None job blanks source source' sink sink' ended book =
 DoesJob (Some answering) job blanks source source' sink sink' ended book =
     AnswersFrom answering blanks source source' sink sink' ended book
 
+-- What a run of a job promises, by its kind.
 abbrev pub RunsJob : Job → Blanks → SourceFacts → SourceFacts → SinkFacts → SinkFacts → Status → Option BookFacts
     → Type 0
 RunsJob job blanks source source' sink sink' ended book =
