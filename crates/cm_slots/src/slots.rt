@@ -42,7 +42,7 @@ pub struct Slots<C: Controller> {
     boxes: Vec<Option<C>>,
     /// Whether a cycle is aloft, and with it the boxes of those that run.
     aloft: bool,
-    /// Whether mail may wait for some of them. If none waits a begin looks at none.
+    /// Whether mail may wait for some of them. Where none waits a begin looks at none.
     mail_waits: bool,
 }
 

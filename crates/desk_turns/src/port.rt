@@ -27,8 +27,7 @@ impl<'d, C: Controller> DeskPort<'d, C> {
         requires { who < desk.old.opening.sessions }
         ensures lent { result.desk.ghost_name ≡ desk.entry.ghost_name }
         ensures desk { result.desk.now ≡ desk.old }
-        ensures who { result.who ≡ who }
-        ensures waited { result.waited ≡ 0 }
+        ensures who { (result.who ≡ who) × (result.waited ≡ 0) }
     {
         DeskPort {
             alloc,

@@ -13,7 +13,7 @@ returns-clause-stepped g c =
     c.advance.new.port.waited
     c.args.sessions.now c.index-sessions-who.result c.advance.new.self c.args.desk.now c.over-port.result.desk.now
     c.advance.new.port.desk.now _
-    (omega (arith, c.if-who-sessions.false, c.sessions.ensures, c.requires.many)) c.over-port.ensures.who who
+    (omega (arith, c.if-who-sessions.false, c.sessions.ensures, c.requires.many)) c.over-port.ensures.who.0 who
     c.over-port.ensures.desk opening
     c.in_ok-advance.ensures.advanced c.in_ok-advance.ensures.as_written (search rules)
 
