@@ -21,6 +21,8 @@ use Rattle.cm_top.specs.Book.{BookFacts, Task, IsShort}
 use Rattle.cm_top.specs.Status.{Written, Wrote, RanDocument, status_of_document}
 use Rattle.cm_top.specs.Traced.{Given, traced}
 use Rattle.cm_top.specs.Wished.{wished, planned_text}
+use Rattle.cm_top.specs.declared.answer.Asked.{Asked}
+use Rattle.cm_top.specs.declared.answer.Asked.TheVariants as asked_for
 use Rattle.cm_top.specs.declared.status.Status.{Status}
 use Rattle.cm_top.specs.declared.status.Status.TheVariants as status
 
@@ -36,6 +38,11 @@ answering_of kind.Upgrade = Some upgrading
 answering_of kind.Check = Some checking
 answering_of kind.Plan = Some planning
 answering_of _ = None
+
+-- and of a job that reads a document of its own
+abbrev pub answering : Asked → Answering
+answering asked_for.Check = checking
+answering asked_for.Plan = planning
 
 -- ---- What each promises
 

@@ -1,49 +1,25 @@
 //! The job `check`: the trace that stands behind the script of a document is judged.
 
-ghost use Rattle.std.specs.Prelude.{◌≡◌, ◌≤◌, length, None};
+ghost use Rattle.std.specs.Prelude.{◌≡◌, ◌≤◌, length};
 ghost use Rattle.cm_document.specs.ScriptLaws.{MeetsRules};
 ghost use Rattle.cm_document.specs.declared.document.Document.{Document};
 ghost use Rattle.cm_document.specs.declared.limits.TheConstants.{LONGEST_DOCUMENT};
 ghost use Rattle.cm_top.specs.Answering.{checking};
 ghost use Rattle.cm_top.specs.Calls.Answer.{AnswersBytes, AnswersGiven};
-ghost use Rattle.cm_top.specs.Calls.Run.{sink_facts, source_facts, written, AnswersFrom, MindsFaults, MindsSink};
+ghost use Rattle.cm_top.specs.Calls.Run.{sink_facts, written, MindsSink};
 ghost use Rattle.cm_top.specs.Status.{ComesBeforeWriting};
 
 use crate::document::{Traced, read_traced};
 use crate::status::Status;
 use crate::upgrade::write;
-use cm_document::{DocumentFault, LONGEST_DOCUMENT};
+use cm_document::DocumentFault;
 use cm_model::Blanks;
-use outside_io::{ReadFault, Sink, Source, read_whole};
+use outside_io::Sink;
 use std::alloc::Global;
 use trace_check::{TraceFault, check_trace};
 
-/// Judges the trace in the document of a source over these blanks: it writes `legal`, or nothing.
-pub fn check_alone<S: Source, K: Sink>(
-    alloc: Global,
-    source: &mut S,
-    sink: &mut K,
-    blanks: Blanks,
-) -> Status
-    ensures answers { AnswersFrom checking blanks
-        (source_facts S.left S.faults source.old) (source_facts S.left S.faults source.new)
-        (sink_facts K.taken K.flushed K.faults sink.old) (sink_facts K.taken K.flushed K.faults sink.new)
-        result None }
-    ensures outside { MindsFaults
-        (source_facts S.left S.faults source.old) (source_facts S.left S.faults source.new)
-        (sink_facts K.taken K.flushed K.faults sink.old) (sink_facts K.taken K.flushed K.faults sink.new) result }
-    ensures untouched { ComesBeforeWriting result → sink.new ≡ sink.old }
-{
-    match read_whole(alloc, source, LONGEST_DOCUMENT) {
-        Ok(bytes) => check_bytes(alloc, bytes.as_slice(), sink, &blanks),
-        Err(ReadFault::Failed) => Status::ReadFault,
-        Err(ReadFault::TooLong) => Status::TooLong,
-        Err(ReadFault::Memory) => Status::Memory,
-    }
-}
-
 /// Judges the trace in the document that these bytes are.
-fn check_bytes<K: Sink>(alloc: Global, bytes: &[u8], sink: &mut K, blanks: &Blanks) -> Status
+pub fn check_bytes<K: Sink>(alloc: Global, bytes: &[u8], sink: &mut K, blanks: &Blanks) -> Status
     requires { length bytes.now ≤ LONGEST_DOCUMENT }
     ensures checks { AnswersBytes checking blanks.now bytes.now
         (written (sink_facts K.taken K.flushed K.faults sink.old) (sink_facts K.taken K.flushed K.faults sink.new))

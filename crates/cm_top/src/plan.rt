@@ -1,49 +1,25 @@
 //! The job `plan`: the script is written that starts the controllers which a document wants.
 
-ghost use Rattle.std.specs.Prelude.{◌≡◌, ◌⊎◌, ◌≤◌, length, None, Ok, Err, MatchResult};
+ghost use Rattle.std.specs.Prelude.{◌≡◌, ◌⊎◌, ◌≤◌, length, Ok, Err, MatchResult};
 ghost use Rattle.cm_document.specs.declared.limits.TheConstants.{LONGEST_DOCUMENT};
 ghost use Rattle.cm_top.specs.Answering.{planning, untraced};
 ghost use Rattle.cm_top.specs.Calls.Answer.{AnswersBytes, AnswersGiven};
-ghost use Rattle.cm_top.specs.Calls.Run.{sink_facts, source_facts, written, AnswersFrom, MindsFaults, MindsSink};
+ghost use Rattle.cm_top.specs.Calls.Run.{sink_facts, written, MindsSink};
 ghost use Rattle.cm_top.specs.Status.{ComesBeforeWriting};
 ghost use Rattle.cm_top.specs.Wished.{planned_text};
 
 use crate::status::Status;
 use crate::upgrade::write;
 use crate::wish::{read_wish, wanted_in};
-use cm_document::{Document, DocumentFault, LONGEST_DOCUMENT};
+use cm_document::{Document, DocumentFault};
 use cm_model::Blanks;
-use outside_io::{ReadFault, Sink, Source, read_whole};
+use outside_io::Sink;
 use script_text::print_script;
 use spawn_plan::{SpawnFault, spawn};
 use std::alloc::Global;
 
-/// Plans what the document of a source wants over these blanks: it writes a script, or nothing.
-pub fn plan_alone<S: Source, K: Sink>(
-    alloc: Global,
-    source: &mut S,
-    sink: &mut K,
-    blanks: Blanks,
-) -> Status
-    ensures answers { AnswersFrom planning blanks
-        (source_facts S.left S.faults source.old) (source_facts S.left S.faults source.new)
-        (sink_facts K.taken K.flushed K.faults sink.old) (sink_facts K.taken K.flushed K.faults sink.new)
-        result None }
-    ensures outside { MindsFaults
-        (source_facts S.left S.faults source.old) (source_facts S.left S.faults source.new)
-        (sink_facts K.taken K.flushed K.faults sink.old) (sink_facts K.taken K.flushed K.faults sink.new) result }
-    ensures untouched { ComesBeforeWriting result → sink.new ≡ sink.old }
-{
-    match read_whole(alloc, source, LONGEST_DOCUMENT) {
-        Ok(bytes) => plan_bytes(alloc, bytes.as_slice(), sink, &blanks),
-        Err(ReadFault::Failed) => Status::ReadFault,
-        Err(ReadFault::TooLong) => Status::TooLong,
-        Err(ReadFault::Memory) => Status::Memory,
-    }
-}
-
 /// Plans what the document wants that these bytes are.
-fn plan_bytes<K: Sink>(alloc: Global, bytes: &[u8], sink: &mut K, blanks: &Blanks) -> Status
+pub fn plan_bytes<K: Sink>(alloc: Global, bytes: &[u8], sink: &mut K, blanks: &Blanks) -> Status
     requires { length bytes.now ≤ LONGEST_DOCUMENT }
     ensures plans { AnswersBytes planning blanks.now bytes.now
         (written (sink_facts K.taken K.flushed K.faults sink.old) (sink_facts K.taken K.flushed K.faults sink.new))

@@ -14,24 +14,24 @@ use Rattle.cm_top.proofs.top.run_alone.Goals as goal
 pub returns-in-Check-clause-runs : goal.returns-in-Check-clause-runs
 returns-in-Check-clause-runs g c =
     answers-DoesJob checking c.args.job.now c.args.job.now.kind c.args.stock c.blanks.result _ _ _ _
-    c.check_alone.result None (ap answering_of c.in-Check.is) c.blanks.ensures
-    c.check_alone.ensures.answers
+    c.answer_alone.result None (ap answering_of c.in-Check.is) c.blanks.ensures
+    c.answer_alone.ensures.answers
 
 pub returns-in-Check-clause-spared : goal.returns-in-Check-clause-spared
 returns-in-Check-clause-spared g c =
-    answers-SparesAlone c.args.job.now c.check_alone.result _ _ _ _ (c.requires.unmade (ap can_make c.in-Check.is))
-    c.check_alone.ensures.untouched
+    answers-SparesAlone c.args.job.now c.answer_alone.result _ _ _ _ (c.requires.unmade (ap can_make c.in-Check.is))
+    c.answer_alone.ensures.untouched
 
 pub returns-in-Plan-clause-runs : goal.returns-in-Plan-clause-runs
 returns-in-Plan-clause-runs g c =
     answers-DoesJob planning c.args.job.now c.args.job.now.kind c.args.stock c.blanks-in-Plan.result _ _ _ _
-    c.plan_alone.result None (ap answering_of c.in-Plan.is) c.blanks-in-Plan.ensures
-    c.plan_alone.ensures.answers
+    c.answer_alone-in-Plan.result None (ap answering_of c.in-Plan.is) c.blanks-in-Plan.ensures
+    c.answer_alone-in-Plan.ensures.answers
 
 pub returns-in-Plan-clause-spared : goal.returns-in-Plan-clause-spared
 returns-in-Plan-clause-spared g c =
-    answers-SparesAlone c.args.job.now c.plan_alone.result _ _ _ _ (c.requires.unmade (ap can_make c.in-Plan.is))
-    c.plan_alone.ensures.untouched
+    answers-SparesAlone c.args.job.now c.answer_alone-in-Plan.result _ _ _ _ (c.requires.unmade (ap can_make c.in-Plan.is))
+    c.answer_alone-in-Plan.ensures.untouched
 
 -- another job reads its document plainly; one that answers without a book reads it itself
 plainly : (kind : JobKind) → kind ≢ Live → kind ≢ Check → kind ≢ Plan → ReadsPlainly kind

@@ -2,25 +2,25 @@ use Rattle.std.proofs.Common.{sym, ap, ◌∙◌}
 use Rattle.std.specs.Prelude.{Err}
 use Rattle.cm_top.proofs.BytesLemmas.{bytes-AnswersFrom, failed-AnswersFrom}
 use Rattle.cm_top.proofs.BytesLemmas.{long-AnswersFrom, memory-AnswersFrom, failed_Rose}
-use Rattle.cm_top.proofs.plan.plan_alone.Goals as goal
+use Rattle.cm_top.proofs.answer.answer_alone.Goals as goal
 
--- what was read is all that the source told, and its bytes were planned
+-- what was read is all that the source told, and its bytes were answered
 pub returns-in-Ok-clause-answers : goal.returns-in-Ok-clause-answers
 returns-in-Ok-clause-answers g c =
-    let plans = rw c.as_slice.ensures.value at c.plan_bytes.ensures.plans in
-    bytes-AnswersFrom _ _ _ _ c.in-Ok.bytes.items _ _ c.plan_bytes.result c.in-Ok.ensures.read.whole plans
-    c.plan_bytes.ensures.outside
+    let answers = rw c.as_slice.ensures.value at c.answer_bytes.ensures.answers in
+    bytes-AnswersFrom _ _ _ _ c.in-Ok.bytes.items _ _ c.answer_bytes.result c.in-Ok.ensures.read.whole answers
+    c.answer_bytes.ensures.outside
 
 -- the source was read without a fault
 pub returns-in-Ok-clause-outside : goal.returns-in-Ok-clause-outside
 returns-in-Ok-clause-outside g c = record {
   read_fault = record {
     later = c.read_whole.ensures.cause.later;
-    counted = λ failed. absurd (rw failed at c.plan_bytes.ensures.plans.of_bytes);
+    counted = λ failed. absurd (rw failed at c.answer_bytes.ensures.answers.of_bytes);
     uncounted = λ other. c.read_whole.ensures.cause.uncounted (λ failed. let no = sym c.in-Ok.is ∙ failed in cc);
   };
   read_at_most = c.read_whole.ensures.at_most;
-  of_sink = c.plan_bytes.ensures.outside;
+  of_sink = c.answer_bytes.ensures.outside;
 }
 
 -- a source that failed, one that is too long, and one for which memory ran out
