@@ -132,36 +132,47 @@ def prove_library(crate):
 
 
 def prove_libraries(crates, progress):
-    """Proves the crates, each once those below it are, and first those with the longest way above.
-
-    Returns what was said where one fails.
-    """
-    rt = kit()
+    """Proves the crates and keeps their libraries. Returns whether all were proved."""
     guard()
     # `rt lib` is not run here: two at once would wait for each other wherever both stand on one crate.
-    known = {it.name: it for it in rt.crates_below(str(TOP)) if it.name in crates}
-    held = rt.lock([*known.values()])
+    known = {it.name: it for it in kit().crates_below(str(TOP)) if it.name in crates}
+    held = kit().lock([*known.values()])
+    try:
+        return prove_side_by_side(crates, known, progress)
+    finally:
+        for it in held:
+            os.close(it)
+
+
+def prove_side_by_side(crates, known, progress):
+    """Proves the crates, each once those below it are, and first those with the longest way above. `known` has what the
+    kit knows of each.
+
+    Returns whether all were proved.
+    """
     waiting, running = sorted(crates, key=progress.way, reverse=True), {}
     with ThreadPoolExecutor(progress.lanes) as pool:
         while waiting or running:
-            for crate in [it for it in waiting if not set(crates_below(it)[:-1]) & {*waiting, *running.values()}]:
-                if len(running) < progress.lanes:
-                    waiting.remove(crate)
-                    progress.begin(crate)
-                    running[pool.submit(prove_library, known[crate])] = crate
+            for crate in ready(waiting, running)[: progress.lanes - len(running)]:
+                waiting.remove(crate)
+                progress.begin(crate)
+                running[pool.submit(prove_library, known[crate])] = crate
             ended = wait(running, EVERY, FIRST_COMPLETED).done
             if not ended:
                 progress.tell()
             for it in ended:
                 crate, (status, said) = running.pop(it), it.result()
                 if status:
-                    waiting.clear()  # those that run come to their end
                     say("\n".join([*said, f"{progress.name}: {crate} could not be proved"]))
-                    return [crate]
+                    return False  # those that run come to their end
                 progress.end(crate)
-    for it in held:
-        os.close(it)
-    return []
+    return True
+
+
+def ready(waiting, running):
+    """Returns those that wait for no crate below them."""
+    left = {*waiting, *running.values()}
+    return [it for it in waiting if not left & {*crates_below(it)[:-1]}]
 
 
 def run_program(name, progress):
@@ -202,7 +213,7 @@ def build(name, program, crates, begun):
     progress = Progress(name, todo)
     many = f"{len(todo)} crates are" if len(todo) > 1 else "its crate is"
     say(f"{name}: missing, or older than a source: {many} proved, {progress.lanes} at a time, and then it is built")
-    if prove_libraries(todo[:-1], progress) or not run_program(name, progress) or not program.exists():
+    if not (prove_libraries(todo[:-1], progress) and run_program(name, progress) and program.exists()):
         say(f"{name}: it could not be built")
         return 1
     os.utime(program, (begun, begun))
