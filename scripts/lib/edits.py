@@ -54,7 +54,3 @@ class Edit:
                 faults.append(f"its old text stands {times} times in {file}: {old.strip()}")
             texts[file] = text.replace(old, new)
         return texts, faults
-
-
-def edits_in(folder):
-    return [Edit(path) for path in sorted(folder.glob("*.edit"))]

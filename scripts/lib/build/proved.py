@@ -21,9 +21,7 @@ from ..kit import guard, kit
 from ..tree import TOP, crates_below
 
 EVERY = 60  # seconds: so often it says how far it is, beside each crate's end
-TRUSTED = (
-    4  # minutes of the table: so much has to be proved before the pace of this machine counts as much as the table's
-)
+TRUSTED = 4  # minutes of the table: with so many proved, the pace of this machine counts as much as the table's
 UNTIMED = 1.0  # minutes, of a crate that the table has no number for
 MEMORY = 2.5e9  # bytes: so much a proof takes at most, of nearly all crates
 LAST = 20  # lines of the prover that are shown where it fails

@@ -152,7 +152,7 @@ def uncommented(text):
     return re.sub(r"(?m)^\s*//.*\n|(?<=\s)//.*$", "", text)
 
 
-def public_in(file, crate):
+def public_in(file):
     """The names that a module passes on, and the modules in it that are public."""
     text = uncommented(file.read_text())
     names = set()
@@ -170,7 +170,7 @@ def reached(crate):
         if not file.exists():
             return
         files.append(file)
-        passed_on, modules = public_in(file, crate)
+        passed_on, modules = public_in(file)
         names.update(passed_on)
         for module in modules:
             follow(below / f"{module}.rt", below / module)

@@ -24,7 +24,7 @@ from pathlib import Path
 from ..tool import Tally
 from ..tree import TOP
 from . import programs
-from .examples import EXAMPLES, beside, words_of
+from .examples import EXAMPLES, words_of
 from .memory import CASES
 from .other import JUDGED, judge
 
@@ -57,8 +57,7 @@ def options(parser):
 
 def rows():
     """Gives of each row of the page how many lines are left, or how many bytes; the status with the line that is told;
-    and how many lines
-    are printed."""
+    and how many lines are printed."""
     below = re.search(r"(?ms)^## A document that ends too early$(.*?)(?=^## |\Z)", PAGE.read_text())[1]
     for left, unit, status, line, printed in re.findall(
         r"(?m)^\| (\d+)( bytes)? \| (\d) \| (?:`(.+?)`)? ?\| (\d+) \|$", below

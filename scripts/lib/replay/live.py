@@ -18,7 +18,6 @@ import itertools
 import os
 import random
 import re
-import sys
 from pathlib import Path
 
 from ..tree import TOP

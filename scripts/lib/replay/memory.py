@@ -71,7 +71,7 @@ def is_fair_live(program, document, came, _):
     return ended == WANT and not live.differs_in_steps(program, document, came.printed.split(b"\n")[:-1])
 
 
-def is_right_or_wants(came, whole):
+def is_right_or_wants(came, _):
     """Whether a test passed, or has no memory for itself."""
     return came.status == 0 or came.status == FAILED and bool(OWN_WANT.match(came.told))
 

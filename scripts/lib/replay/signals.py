@@ -7,7 +7,6 @@ so does one whose reader waits. docs/FAULTS.md says what a user sees. Prints a l
 failed`. The exit status is 1 if one failed.
 """
 
-import os
 import signal
 import subprocess
 import tempfile

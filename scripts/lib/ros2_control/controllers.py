@@ -43,9 +43,7 @@ class Controller:
     reads: list = field(default_factory=list)  # nothing in place of a list for all states
     numbers: dict = field(default_factory=dict)
     exports: list = field(default_factory=list)  # the references that others may claim, by their paths in the YAML
-    fallbacks: list = field(
-        default_factory=list
-    )  # the names in the YAML of those that stand in for it, with their places
+    fallbacks: list = field(default_factory=list)  # who stands in for it, by the names in the YAML, with their places
     stand_ins: list = field(default_factory=list)  # the names of ours that these are
     also: list = field(default_factory=list)  # what it names besides and has to be there, each as a command or a state
     fault: Refused = None  # that counts if all of these are there
@@ -81,7 +79,7 @@ def manager_of(path, listing):
             listing.left_out(node.place, f"{quoted(name)}, which {MANAGER} does not list")
     if not controllers:
         raise Refused(manager.place, f"{MANAGER} lists no controller")
-    return Manager(manager.place, rate, controllers, initial_states(manager, listing), reading.left_out)
+    return Manager(manager.place, rate, controllers, initial_states(manager), reading.left_out)
 
 
 def listed(manager, nodes, listing):
@@ -102,7 +100,7 @@ def listed(manager, nodes, listing):
     return found
 
 
-def initial_states(manager, listing):
+def initial_states(manager):
     found = {}
     for state in ("unconfigured", "inactive"):
         node = manager.values.get(f"{INITIAL}.{state}")
@@ -285,7 +283,7 @@ class Reading:
         for place, kind in others:
             self.listing.left_out(
                 place,
-                f"command interface {quoted(kind)} of {quoted(it.given)}, " "because a joint has one command at a time",
+                f"command interface {quoted(kind)} of {quoted(it.given)}, because a joint has one command at a time",
             )
 
 

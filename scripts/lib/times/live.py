@@ -8,7 +8,6 @@ desk; and with `live`, for how long a cycle takes from before its begin until it
 is proved and built first.
 """
 
-import os
 import re
 import resource
 import subprocess
