@@ -10,6 +10,7 @@ import re
 import subprocess
 import sys
 import time
+from pathlib import Path
 
 from ..replay import programs
 from ..tree import TOP
@@ -19,6 +20,17 @@ RUNS = 7
 TURNS = 2_000_000
 LAST = 20  # lines of the prover that are shown if it fails
 PAIR = re.compile(r"(\w+): same \w+, ([0-9.]+) ns plain, ([0-9.]+) ns")
+
+
+def options_of_both(parser):
+    """Lets the words of a command that runs cm_bench beside the program name others than the built ones."""
+    parser.add_argument("--bench", type=Path, metavar="PATH", help="another program than the built cm_bench")
+    programs.options(parser)
+
+
+def programs_of(asked):
+    """Returns the program and cm_bench, of a command with these options."""
+    return programs.program(asked), str(asked.bench or measuring())
 
 
 def measuring():

@@ -14,7 +14,6 @@ import subprocess
 import tempfile
 from pathlib import Path
 
-from ..replay import programs
 from . import bodies
 from .program import CYCLES, DOCUMENTS, HEAD, tell_table, time_of_a_run
 
@@ -32,11 +31,7 @@ CALLERS = {
     "eight_callers": "8",
 }
 LENGTHS = re.compile(r"(.*): (\d+) cycles, median (\d+) ns, hundredth greatest (\d+) ns, greatest (\d+) ns")
-
-
-def options(parser):
-    parser.add_argument("--bench", type=Path, metavar="PATH", help="another program than the built cm_bench")
-    programs.options(parser)
+options = bodies.options_of_both
 
 
 def bare():
@@ -92,7 +87,7 @@ def of_cycles(bench):
 
 
 def main(asked):
-    program, bench = programs.program(asked), str(asked.bench or bodies.measuring())
+    program, bench = bodies.programs_of(asked)
     with tempfile.TemporaryDirectory() as folder:
         made = {"bare": bare, "waiting": waiting, **{name: made for name, (made, _) in DOCUMENTS.items()}}
         paths = {name: Path(folder, name) for name in made}

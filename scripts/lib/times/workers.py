@@ -12,7 +12,6 @@ import subprocess
 import tempfile
 from pathlib import Path
 
-from ..replay import programs
 from . import bodies
 from .program import tell_table, time_of_a_run
 
@@ -31,11 +30,7 @@ KINDS = {
     "differential": 'claims = ["l{0}/position", "r{0}/position"]\nreduction1 = 2\nreduction2 = 2\n',
     "limiter": CLAIMS + READS + "min = -1\nmax = 1\nvmax = 1\namax = 100\n",
 }
-
-
-def options(parser):
-    parser.add_argument("--bench", type=Path, metavar="PATH", help="another program than the built cm_bench")
-    programs.options(parser)
+options = bodies.options_of_both
 
 
 def document(kind):
@@ -82,7 +77,7 @@ def pays_from(times, workers):
 
 
 def main(asked):
-    program, bench = programs.program(asked), str(asked.bench or bodies.measuring())
+    program, bench = bodies.programs_of(asked)
     with tempfile.TemporaryDirectory() as folder:
         rows = []
         for kind in KINDS:
