@@ -3,9 +3,10 @@
 import itertools
 import string
 
+from ..documents import SEPARATOR, head
+
 LONGEST = 1_048_576
-HEAD = "version = 1\nupdate_rate = 100\ncycles = 1\n"
-END = "--- script ---\n"
+HEAD, END = head(1), SEPARATOR
 COMPONENT = '[[component]]\nname = "c"\nkind = "system"\n'
 JOINT = '[[component.joint]]\nname = "{}"\nvmax = 1\n'
 LONG = "n" * 64

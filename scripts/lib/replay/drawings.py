@@ -16,6 +16,7 @@ import sys
 import tomllib
 from pathlib import Path
 
+from ..documents import made
 from ..tree import TOP
 from . import programs
 from .layout import names, places
@@ -35,32 +36,6 @@ def options(parser):
     parser.add_argument("--count", type=int, default=200, help="so many random documents, 200 if it is not said")
     parser.add_argument("--keep", type=Path, metavar="FOLDER", help="where the pages are put")
     programs.options(parser, drawer=True)
-
-
-def made(rounds):
-    """The made document of so many rounds."""
-    joints = "".join(
-        f'[[component.joint]]\nname = "j{n}"\nvmax = 1\ncommand = ["position"]\nstate = ["position"]\n'
-        for n in range(8)
-    )
-    controllers = "".join(
-        f'[[controller]]\nname = "f{n}"\ntype = "forward"\nclaims = ["j{n}/position"]\n' for n in range(8)
-    )
-    lines = [f"{word} f{n}" for word in ("load", "configure") for n in range(8)]
-    lines.append("switch strict " + " ".join(f"+f{n}" for n in range(8)))
-    for k in range(1, rounds + 1):
-        other = (k + 1) % 8
-        lines += [
-            f"send f{k % 8} 0.{37 * k % 100:02}",
-            f"switch strict -f{other}",
-            f"switch strict +f{other}",
-            f"await {10 * k}",
-        ]
-    return (
-        f'version = 1\nupdate_rate = 100\ncycles = {10 * rounds}\n[[component]]\nname = "sys"\nkind = "system"\n'
-        f"{joints}"
-        f"{controllers}--- script ---\nsession a\n" + "\n".join(lines) + "\n"
-    ).encode()
 
 
 def examples():
@@ -129,7 +104,7 @@ class Looker:
 
 def main(asked):
     looker = Looker(programs.drawer(asked), programs.program(asked), asked.keep)
-    cases = [*examples(), *[(f"the made document of {it} rounds", ["run"], made(it)) for it in (1, 12, 70)]]
+    cases = [*examples(), *[(f"the made document of {it} rounds", ["run"], made(it).encode()) for it in (1, 12, 70)]]
     cases += random_documents(asked.other, looker.cm, asked.count)
     passed = failed = 0
     with concurrent.futures.ThreadPoolExecutor(AT_ONCE) as pool:

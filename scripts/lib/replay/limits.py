@@ -13,28 +13,22 @@ and last `N passed, M failed`. The exit status is 1 if one failed.
 from dataclasses import dataclass
 from pathlib import Path
 
+from ..documents import KINDS, component, controller, document, group, head, joint, listed
 from ..tool import Tally
 from . import programs
 from .other import JUDGED, judge
-from .sizes.descriptions import group
 from .sizes.parts import (
     BLANKS,
     CALLS,
     CLAIMS_OF_ONE,
     CYCLES,
-    KINDS,
     LINE,
     LONGEST,
     NAME,
     RATE,
     SESSIONS,
-    component,
-    controller,
-    head,
-    joint,
     limit,
     of_version,
-    quoted,
 )
 from .streams import LEAST, USAGE
 
@@ -95,7 +89,7 @@ class Limits:
         ]
         positions = [f"{name}/position" for name in joints[:CLAIMS_OF_ONE]]
         passthroughs, forwards, readers, mocks = self.controllers()
-        by_mocks, by_readers = (f"fallback = [{', '.join(quoted(names[:FALLBACKS]))}]\n" for names in (mocks, readers))
+        by_mocks, by_readers = (listed("fallback", names[:FALLBACKS]) for names in (mocks, readers))
         parts += [controller(name, "passthrough", positions, more=by_readers) for name in passthroughs]
         parts += [controller(name, "forward", positions, more=by_readers) for name in forwards]
         parts += [controller(name, "broadcaster", reads=positions, more=by_mocks) for name in readers]
@@ -137,8 +131,7 @@ class Limits:
     def document(self, job, cycles):
         """The document, and how many lines are printed of it beside what is told of the switch."""
         lines, calls = self.script(job)
-        text = self.described(cycles) + "--- script ---\n" + "".join(f"{line}\n" for line in lines)
-        return text.encode(), calls + 2 * cycles + 1  # the last is the close
+        return document(self.described(cycles), lines).encode(), calls + 2 * cycles + 1  # the last is the close
 
 
 def lengthened(document):

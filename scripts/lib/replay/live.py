@@ -20,6 +20,7 @@ import random
 import re
 from pathlib import Path
 
+from ..documents import component, controller, document, head, joint, named
 from ..tree import TOP
 from . import programs
 from .other import JUDGED, STAGE, judge
@@ -44,22 +45,14 @@ def options(parser):
 # ---- The documents
 
 
-def joint(number):
-    return f'[[component.joint]]\nname = "j{number}"\nvmax = 1\ncommand = ["position"]\nstate = ["position"]\n'
-
-
-def controller(name):
-    return f'[[controller]]\nname = "{name}"\ntype = "forward"\nclaims = ["j{name[1:]}/position"]\n'
-
-
 def made(number):
     """The document of this number: each joint has two controllers, which sessions load, switch, send to and list."""
     by = random.Random(number)
     names = [f"{letter}{k}" for k in range(JOINTS) for letter in "ab"]
-    description = f'version = 1\nupdate_rate = 1000\ncycles = {CYCLES}\n[[component]]\nname = "arm"\nkind = "system"\n'
-    description += "".join(map(joint, range(JOINTS))) + "".join(map(controller, names))
+    controllers = (controller(name, "forward", [f"j{name[1:]}/position"]) for name in names)
+    described = head(CYCLES, 1000) + component("arm", map(joint, named("j", JOINTS))) + "".join(controllers)
     script = [line for k in range(SESSIONS) for line in [f"session s{k}", *(call(by, names) for _ in range(LINES))]]
-    return description.encode() + SEPARATOR + "".join(line + "\n" for line in script).encode()
+    return document(described, script).encode()
 
 
 def call(by, names):

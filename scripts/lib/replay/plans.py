@@ -12,11 +12,11 @@ import os
 from concurrent.futures import ThreadPoolExecutor
 from pathlib import Path
 
+from ..documents import SEPARATOR
 from ..tool import Tally
 from . import programs
 from .other import PLANNED, judge
 
-SEPARATOR = "--- script ---\n"
 MOST = 4  # controllers that are wanted together
 
 ROBOT = """\

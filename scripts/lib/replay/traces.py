@@ -1,6 +1,8 @@
 """A trace as a schedule: the job `steps` makes the calls of a live run again, in their order."""
 
-SEPARATOR = b"--- script ---\n"
+from .. import documents
+
+SEPARATOR = documents.SEPARATOR.encode()
 TRACE = b"--- trace ---\n"
 LONGEST = 1_048_576  # bytes of a document, with its trace
 LOOP, CLOSE, TOLD = b"loop ", b"loop close", b"told"

@@ -23,6 +23,7 @@ import subprocess
 import sys
 import tempfile
 
+from ..documents import KINDS, activated, component, controller, document, every, head, joint, named
 from ..replay import programs
 from ..tree import TOP
 
@@ -47,61 +48,40 @@ def options(parser):
     programs.options(parser)
 
 
-def head(rate, cycles):
-    return f"version = 1\nupdate_rate = {rate}\ncycles = {cycles}\n"
-
-
-def component(name, joints):
-    return f'[[component]]\nname = "{name}"\nkind = "system"\n' + "".join(joints)
-
-
-def joint(name, vmax, command, state):
-    lists = [", ".join(f'"{kind}"' for kind in kinds.split()) for kinds in (command, state)]
-    return f'[[component.joint]]\nname = "{name}"\nvmax = {vmax}\ncommand = [{lists[0]}]\nstate = [{lists[1]}]\n'
-
-
-def controller(name, kind, claim="", read="", more=""):
-    claims = f'claims = ["{claim}"]\n' if claim else ""
-    reads = f'reads = ["{read}"]\n' if read else ""
-    return f'[[controller]]\nname = "{name}"\ntype = "{kind}"\n{claims}{reads}{more}'
-
-
-def script(names, lines):
-    started = "".join(f"load {name}\n" for name in names) + "".join(f"configure {name}\n" for name in names)
-    switched = "switch strict " + " ".join(f"+{name}" for name in names) + "\n" if names else ""
-    return "--- script ---\nsession a\n" + started + switched + "".join(lines)
+def started(described, names, lines=()):
+    """A document with a session, which switches these on together if there are any, and then has these lines."""
+    return document(described, [*(activated(names) if names else ["session a"]), *lines])
 
 
 def bare(cycles):
-    return head(1000, cycles) + script([], [])
+    return started(head(cycles, 1000), [])
 
 
 def idle(cycles):
-    return head(1000, cycles) + component("arm", [joint("j1", 1, "position", "position")]) + script([], [])
+    return started(head(cycles, 1000) + component("arm", [joint("j1")]), [])
 
 
 def full(cycles):
-    joints = [
-        joint(f"joint_{k}", 2 + k % 3, "velocity position", "position velocity effort") for k in range(CHAINS + 1)
-    ]
-    gains = [f'kp = {4 + k % 5}\nki = "0.3"\nkd = "0.02"\nimax = 1\nomax = 3\n' for k in range(CHAINS)]
-    lower = [
-        controller(f"pid_{k}", "pid", f"joint_{k}/velocity", f"joint_{k}/position", gains[k]) for k in range(CHAINS)
-    ]
-    upper = [
-        controller(f"traj_{k}", "trajectory", f"pid_{k}/joint_{k}/position", f"joint_{k}/position")
-        for k in range(CHAINS)
-    ]
-    broadcaster = controller("broadcaster", "broadcaster", more='reads = "all"\n')
-    described = [broadcaster, *lower, *upper, controller("forward", "forward", f"joint_{CHAINS}/position")]
-    names = [re.search(r'name = "(\w+)"', text)[1] for text in described]
-    sends = [f"send traj_{k}{moves(k, cycles * 1000)}\n" for k in range(CHAINS)]
-    return (
-        head(1000, cycles)
-        + component("robot", joints)
-        + "".join(described)
-        + script(names, [*sends, "send forward 0.75\n"])
-    )
+    both = ("velocity", "position")
+    joints = [joint(f"joint_{k}", both, KINDS, f"vmax = {2 + k % 3}\n") for k in range(CHAINS + 1)]
+    described = [controller("broadcaster", "broadcaster", more='reads = "all"\n')]
+    for k in range(CHAINS):
+        gains = f'kp = {4 + k % 5}\nki = "0.3"\nkd = "0.02"\nimax = 1\nomax = 3\n'
+        described.append(pid(f"pid_{k}", f"joint_{k}", gains))
+    described += [trajectory(f"traj_{k}", f"pid_{k}", f"joint_{k}") for k in range(CHAINS)]
+    described.append(controller("forward", "forward", [f"joint_{CHAINS}/position"]))
+    names = ["broadcaster", *named("pid_", CHAINS), *named("traj_", CHAINS), "forward"]
+    sends = [f"send traj_{k}{moves(k, cycles * 1000)}" for k in range(CHAINS)]
+    robot = head(cycles, 1000) + component("robot", joints) + "".join(described)
+    return started(robot, names, [*sends, "send forward 0.75"])
+
+
+def pid(name, moved, gains):
+    return controller(name, "pid", [f"{moved}/velocity"], [f"{moved}/position"], gains)
+
+
+def trajectory(name, below, moved):
+    return controller(name, "trajectory", [f"{below}/{moved}/position"], [f"{moved}/position"])
 
 
 def moves(k, span):
@@ -111,31 +91,30 @@ def moves(k, span):
 
 
 def switches(cycles):
-    joints = [joint(f"j{k}", 1, "velocity position", "position") for k in range(SWITCHED)]
+    joints = [joint(name, ("velocity", "position")) for name in named("j", SWITCHED)]
     described, names = [], []
     for k in range(SWITCHED):
-        described.append(controller(f"pid{k}", "pid", f"j{k}/velocity", f"j{k}/position", "kp = 2\n"))
-        described.append(controller(f"pass{k}", "passthrough", f"pid{k}/j{k}/position"))
-        described.append(controller(f"traj{k}", "trajectory", f"pass{k}/j{k}/position", f"j{k}/position"))
+        described.append(pid(f"pid{k}", f"j{k}", "kp = 2\n"))
+        described.append(controller(f"pass{k}", "passthrough", [f"pid{k}/j{k}/position"]))
+        described.append(trajectory(f"traj{k}", f"pass{k}", f"j{k}"))
         names += [f"pid{k}", f"pass{k}", f"traj{k}"]
     requests = [request(i % SWITCHED, i // SWITCHED % 4) for i in range(cycles - 1)]
-    return head(100, cycles) + component("robot", joints) + "".join(described) + script(names, requests)
+    return started(head(cycles) + component("robot", joints) + "".join(described), names, requests)
 
 
 def request(k, turn):
     return (
-        f"switch strict -traj{k} +traj{k}\n",
-        f"switch strict -pid{k}\n",
-        f"switch best -pass{k} -traj{k} +pass{k} +nosuch\n",
-        f"switch best +traj{k} +traj{(k + 1) % SWITCHED}\n",
+        f"switch strict -traj{k} +traj{k}",
+        f"switch strict -pid{k}",
+        f"switch best -pass{k} -traj{k} +pass{k} +nosuch",
+        f"switch best +traj{k} +traj{(k + 1) % SWITCHED}",
     )[turn]
 
 
 def lists(count):
-    mocks = [f"mock_{k}" for k in range(LOADED)]
-    described = "".join(controller(name, "mock") for name in mocks)
-    loads = [f"load {name}\n" for name in mocks]
-    return head(100, 1) + described + script([], loads + ["list controllers\n"] * count)
+    mocks = named("mock_", LOADED)
+    described = head(1) + "".join(controller(name, "mock") for name in mocks)
+    return started(described, [], [*every("load {}", mocks), *["list controllers"] * count])
 
 
 def made(cycles):

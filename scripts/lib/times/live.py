@@ -14,6 +14,7 @@ import subprocess
 import tempfile
 from pathlib import Path
 
+from ..documents import document, named
 from . import bodies
 from .program import CYCLES, DOCUMENTS, HEAD, tell_table, time_of_a_run
 
@@ -22,7 +23,6 @@ WAITING_RUNS = 99  # one takes a tenth of a second, and what it takes of a proce
 LIVE_RUNS = 201  # of 499 measured cycles each
 SESSIONS = 8
 TWO = ["taskset", "-c", "0,1"]  # on two processors
-SCRIPT = "--- script ---\n"
 CALLERS = {
     "desk": "a look, nobody else calls",
     "one_caller": "1",
@@ -35,11 +35,12 @@ options = bodies.options_of_both
 
 
 def bare():
-    return HEAD + SCRIPT
+    return document(HEAD, [])
 
 
 def waiting():
-    return HEAD + SCRIPT + "".join(f"session s{k}\nawait {CYCLES}\n" for k in range(SESSIONS))
+    lines = ([f"session {name}", f"await {CYCLES}"] for name in named("s", SESSIONS))
+    return document(HEAD, [line for each in lines for line in each])
 
 
 def by_both_jobs(program, name, document):

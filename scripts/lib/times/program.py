@@ -17,6 +17,7 @@ import tempfile
 import time
 from pathlib import Path
 
+from ..documents import KINDS, component, controller, document, every, head, joint, named
 from ..replay import programs
 
 CYCLES = 100_000
@@ -24,39 +25,34 @@ RUNS = 7
 MADE = ["run", "--make", "1000"]
 MADE_CYCLES, MADE_ENTRIES, MADE_UPDATES = 10_000, 26_019, 79_000
 CONTROLLERS, LOADED, COMPONENTS, SIDES = 64, 32, 16, "lr"
-HEAD = f"version = 1\nupdate_rate = 1000\ncycles = {CYCLES}\n"
-SESSION = "--- script ---\nsession a\n"
+HEAD = head(CYCLES, 1000)
 options = programs.options
 
 
 def controllers():
-    described = "".join(f'[[controller]]\nname = "c{k}"\ntype = "mock"\n' for k in range(CONTROLLERS))
-    return HEAD + described + SESSION + "".join(f"load c{k}\n" for k in range(LOADED)) + "list controllers\n"
+    described = "".join(controller(name, "mock") for name in named("c", CONTROLLERS))
+    return document(HEAD + described, ["session a", *every("load {}", named("c", LOADED)), "list controllers"])
 
 
 def robot():
-    described = ""
-    for k in range(COMPONENTS):
-        described += f'[[component]]\nname = "c{k}"\nkind = "system"\n'
-        for side in SIDES:
-            described += f'[[component.joint]]\nname = "{side}{k}"\nvmax = 1\ncommand = ["position"]\n'
-            described += 'state = ["position", "velocity"]\n'
-    return HEAD + described
+    joints = ([joint(f"{side}{k}", KINDS[:1], KINDS[:2]) for side in SIDES] for k in range(COMPONENTS))
+    return HEAD + "".join(component(f"c{k}", each) for k, each in enumerate(joints))
 
 
 def components():
-    return robot() + SESSION + "list components\nlist interfaces\n"
+    return document(robot(), ["session a", "list components", "list interfaces"])
 
 
 def updates():
     joints = [f"{side}{k}" for k in range(COMPONENTS) for side in SIDES]
-    described = "".join(
-        f'[[controller]]\nname = "f{it}"\ntype = "forward"\nclaims = ["{it}/position"]\n' for it in joints
-    )
-    script = "".join(f"load fl{k}\nload fr{k}\nconfigure fl{k}\nconfigure fr{k}\n" for k in range(COMPONENTS))
-    script += "switch strict" + "".join(f" +f{it}" for it in joints) + "\n"
-    script += "".join(f"send fl{k} 0.5\nsend fr{k} -0.5\n" for k in range(COMPONENTS))
-    return robot() + described + SESSION + script
+    described = robot() + "".join(controller(f"f{it}", "forward", [f"{it}/position"]) for it in joints)
+    lines = ["session a"]
+    for k in range(COMPONENTS):
+        lines += [f"load fl{k}", f"load fr{k}", f"configure fl{k}", f"configure fr{k}"]
+    lines.append("switch strict " + " ".join(f"+f{it}" for it in joints))
+    for k in range(COMPONENTS):
+        lines += [f"send fl{k} 0.5", f"send fr{k} -0.5"]
+    return document(described, lines)
 
 
 # Each document, with the lines of its trace.

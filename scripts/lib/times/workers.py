@@ -12,6 +12,7 @@ import subprocess
 import tempfile
 from pathlib import Path
 
+from ..documents import component, controller, document, every, head, joint, named
 from . import bodies
 from .program import tell_table, time_of_a_run
 
@@ -33,18 +34,15 @@ KINDS = {
 options = bodies.options_of_both
 
 
-def document(kind):
+def of_one_kind(kind):
     """A document with as many controllers of a kind as components, which one session switches on."""
-    text = f"version = 1\nupdate_rate = 1000\ncycles = {CYCLES}\n"
+    described = head(CYCLES, 1000)
     for k in range(MANY):
-        text += f'[[component]]\nname = "c{k}"\nkind = "system"\n'
-        for side in "lr":
-            text += f'[[component.joint]]\nname = "{side}{k}"\nvmax = 1\n'
-            text += 'command = ["position", "velocity"]\nstate = ["position"]\n'
-    for k in range(MANY):
-        text += f'[[controller]]\nname = "m{k}"\ntype = "{kind}"\n' + KINDS[kind].format(k)
-    text += "--- script ---\nsession a\n" + "".join(f"load m{k}\nconfigure m{k}\n" for k in range(MANY))
-    return text + "switch strict" + "".join(f" +m{k}" for k in range(MANY)) + "\n"
+        described += component(f"c{k}", [joint(f"{side}{k}", ("position", "velocity")) for side in "lr"])
+    for k, name in enumerate(named("m", MANY)):
+        described += controller(name, kind, more=KINDS[kind].format(k))
+    loaded = [line for name in named("m", MANY) for line in (f"load {name}", f"configure {name}")]
+    return document(described, ["session a", *loaded, "switch strict " + " ".join(every("+{}", named("m", MANY)))])
 
 
 def of_kind(program, kind, path):
@@ -82,7 +80,7 @@ def main(asked):
         rows = []
         for kind in KINDS:
             path = Path(folder, kind)
-            path.write_text(document(kind))
+            path.write_text(of_one_kind(kind))
             rows.append(of_kind(program, kind, path))
     tell_table((f"{MANY} controllers", *(f"By {n}" for n in BY)), *rows)
     times, count = of_work(bench)

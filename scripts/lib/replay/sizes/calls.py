@@ -2,6 +2,7 @@
 line.
 """
 
+from ...documents import activated, controller, every, head, named
 from .parts import (
     BLANKS,
     CLAIMS_OF_ONE,
@@ -12,13 +13,8 @@ from .parts import (
     TYPES,
     WAITING,
     Case,
-    activated,
     arm,
     case,
-    controller,
-    every,
-    head,
-    named,
     of_type,
 )
 

@@ -1,27 +1,19 @@
 """The documents of a size that has to do with a description: a count of its parts, or a number in it."""
 
+from ...documents import KINDS, activated, component, controller, every, group, head, joint, listed, named
 from .parts import (
     CLAIMS_OF_ONE,
     COMMANDS,
     CYCLES,
     DECIMALS,
     JOINTS,
-    KINDS,
     RATE,
     STATES,
     Case,
-    activated,
     arm,
     case,
-    component,
-    controller,
-    every,
-    head,
-    joint,
-    named,
     of_joints,
     of_type,
-    quoted,
 )
 
 
@@ -151,7 +143,7 @@ def reads(size):
 def fallbacks(size):
     """A mock that names others, all configured, and whose update fails in cycle 1."""
     names = named("m", size)
-    failing = controller("x", "mock", more=f"fallback = [{', '.join(quoted(names))}]\nfail_update = [1]\n")
+    failing = controller("x", "mock", more=listed("fallback", names) + "fail_update = [1]\n")
     ready = [line for name in ["x", *names] for line in (f"load {name}", f"configure {name}")]
     lines = ["session a", *ready, "switch strict +x", "await 3", "list controllers"]
     return case(head(4) + failing + "".join(controller(name, "mock") for name in names), lines)
@@ -200,10 +192,6 @@ def in_second(make, size, **more):
     made = make(size, **more)
     made.text = of_second(made.text)
     return made
-
-
-def group(name, members):
-    return f'[[group]]\nname = "{name}"\nmembers = [{", ".join(quoted(members))}]\n'
 
 
 def groups(size):

@@ -1,14 +1,14 @@
-"""The limits by their names, and the parts of which a document of some size is made."""
+"""The limits by their names, and the cases that documents of some size are."""
 
 import functools
 import re
 from dataclasses import dataclass, field
 from typing import Optional
 
+from ...documents import KINDS, component, controller, document, joint
 from ...tree import TOP
 
 REQUESTS, NO_CALLS = ("switch ", "hw "), ("session ", "schedule", "step ", "begin", "end", "#")
-KINDS = ("position", "velocity", "effort")
 TYPES = (
     "forward",
     "passthrough",
@@ -95,31 +95,7 @@ def case(described, script=(), untold=0, told=None, fault=None, words=("run",)):
     cycles = int(re.search(r"(?m)^cycles = (\d+)", described)[1])
     calls = sum(bool(line.strip()) and not line.startswith(NO_CALLS) for line in script)
     tickets = sum(line.startswith(REQUESTS) for line in script) - untold
-    text = "".join([described, "--- script ---\n", *(f"{line}\n" for line in script)])
-    return Case(text, calls + tickets + 2 * cycles + 1, told or {}, fault, cycles, words)
-
-
-def head(cycles=3, rate=100):
-    return f"version = 1\nupdate_rate = {rate}\ncycles = {cycles}\n"
-
-
-def quoted(texts):
-    return [f'"{it}"' for it in texts]
-
-
-def joint(name, command=KINDS[:1], state=KINDS[:1], more="vmax = 1\n"):
-    lists = f"command = [{', '.join(quoted(command))}]\nstate = [{', '.join(quoted(state))}]\n"
-    return f'[[component.joint]]\nname = "{name}"\n{more}{lists}'
-
-
-def component(name, joints, more=""):
-    return f'[[component]]\nname = "{name}"\nkind = "system"\n{more}' + ("".join(joints) or "joint = []\n")
-
-
-def controller(name, kind, claims=None, reads=None, more=""):
-    lists = (("claims", claims), ("reads", reads))
-    lines = [f"{key} = [{', '.join(quoted(items))}]\n" for key, items in lists if items is not None]
-    return f'[[controller]]\nname = "{name}"\ntype = "{kind}"\n' + "".join(lines) + more
+    return Case(document(described, script), calls + tickets + 2 * cycles + 1, told or {}, fault, cycles, words)
 
 
 def arm(joints=1, command=KINDS[:1], state=KINDS[:1]):
@@ -130,24 +106,6 @@ def arm(joints=1, command=KINDS[:1], state=KINDS[:1]):
 def of_joints(places, kinds=KINDS):
     """So many interfaces of joints: the positions of all first, then the velocities, then the efforts."""
     return [f"j{k % JOINTS}/{kinds[k // JOINTS % len(kinds)]}" for k in range(places)]
-
-
-def every(line, names):
-    return [line.format(name) for name in names]
-
-
-def activated(names, how="strict"):
-    """A script that loads these, configures them and switches them on together."""
-    return [
-        "session a",
-        *every("load {}", names),
-        *every("configure {}", names),
-        f"switch {how} " + " ".join(every("+{}", names)),
-    ]
-
-
-def named(letter, size):
-    return [f"{letter}{k}" for k in range(size)]
 
 
 def of_type(kind, name, claims=1):
