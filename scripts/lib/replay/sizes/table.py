@@ -98,7 +98,7 @@ def of(made, *given):
     return functools.partial(made, *given)
 
 
-def rows_of_descriptions():
+def rows_of_counts():
     yield Row("components", limit("cm_document::MOST_COMPONENTS"), descriptions.components, too_many("components"))
     yield Row("failing components", limit("cm_document::MOST_COMPONENTS"), descriptions.failing_components)
     yield Row("joints", JOINTS, descriptions.joints, too_many("joints"), 1, bad_range("component[0].joint"))
@@ -112,6 +112,9 @@ def rows_of_descriptions():
     yield Row("references", of_first("references"), descriptions.references, too_many("references"))
     yield Row("claims", of_first("claims"), descriptions.claims, too_many("claims"))
     yield Row("reads", of_first("reads"), descriptions.reads, too_many("reads"))
+
+
+def rows_of_one_controller():
     out_of_range = bad_range("controller[0].claims")
     for kind in ("forward", "passthrough", "trajectory"):
         yield Row(
@@ -120,22 +123,33 @@ def rows_of_descriptions():
     yield Row("claims of a mock", CLAIMS_OF_ONE, of(descriptions.claims_of_one, "mock"), out_of_range)
     too_many_of_one = bad_range("controller[0].fallback")
     yield Row("fallbacks", limit("cm_document::MOST_FALLBACKS"), descriptions.fallbacks, too_many_of_one)
+
+
+def rows_of_numbers():
     yield Row("manager's rate", RATE, descriptions.manager_rate, bad_range("update_rate"), 1, bad_range("update_rate"))
     yield Row("described rate", RATE, descriptions.described_rate, bad_range("controller[0].update_rate"))
     yield Row("cycles", CYCLES, descriptions.cycles, bad_range("cycles"))
     yield Row("cycle of failures", CYCLES - 1, descriptions.cycle_of_failures)
     first, second = limit("cm_document::FIRST_VERSION"), limit("cm_document::SECOND_VERSION")
     yield Row("version", second, descriptions.version, bad_range("version"), first, bad_range("version"))
-    yield from rows_of_second()
+
+
+def rows_of_groups():
     yield Row("groups", limit("cm_document::MOST_GROUPS"), descriptions.groups, too_many("groups"))
     out_of_group = bad_range("group[0].members")
     yield Row("members", limit("cm_document::MOST_MEMBERS"), descriptions.members, out_of_group, 1, out_of_group)
+
+
+def rows_of_quantities():
     for name, path in PATHS.items():
         yield Row(f"{name} in units", UNITS, of(descriptions.quantity, name), bad_value(path))
     yield Row("decimals", DECIMALS, descriptions.decimals, bad_value("component[0].joint[0].vmax"))
     for name, path in LISTS.items():
         yield Row(f"a cycle in {name}", WHOLE, of(descriptions.whole, name), bad_value(f"{path}.{name}[0]"))
         yield Row(f"length of {name}", (LONGEST - 1_000) // 2, of(descriptions.listed_cycles, name))
+
+
+def rows_of_texts():
     joint, above, below = "component[0].joint[0]", "controller[0]", "controller[1]"
     names = {
         "a component": "component[0]",
@@ -212,4 +226,16 @@ def rows_of_words():
 
 @functools.cache
 def table():
-    return {row.what: row for rows in (rows_of_descriptions(), rows_of_scripts(), rows_of_words()) for row in rows}
+    """The rows by what they count."""
+    makers = (
+        rows_of_counts,
+        rows_of_one_controller,
+        rows_of_numbers,
+        rows_of_second,
+        rows_of_groups,
+        rows_of_quantities,
+        rows_of_texts,
+        rows_of_scripts,
+        rows_of_words,
+    )
+    return {row.what: row for maker in makers for row in maker()}
