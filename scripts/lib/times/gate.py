@@ -1,12 +1,13 @@
 """Answers: where does the gate's time go? Prints processor minutes by crate, as a table for docs/SPEED.md, and their
-sum.
+sum. Without a command it runs the gate from nothing (`rt ci --anew`), which takes two to three hours on four cores.
 
-It runs the words given, as `.ci/run` or `rt ci cm_desk`, or else the gate from nothing with the wrong bodies that
-`.ci/run` tries after it; what they print goes to standard error. It looks four times a second at the prover's processes
-among its descendants. The prover's words say which crate it is at, and whether with its tests; that it tries a wrong
-body shows in the folder that it works in, which `rt` and scripts/wrong name for that. The sum is the system's own, so
-the last row has all else: what `rt` itself, linking and the programs took, and what was too short to be seen. The exit
-status is the command's.
+Behind that gate it runs the wrong bodies that `.ci/run` tries after it. A command that is given, as `.ci/run` or `rt ci
+cm_desk`, runs in their place. What they print goes to standard error.
+
+It looks four times a second at the prover's processes among its descendants. The prover's words say which crate it is
+at, and whether with its tests; that it tries a wrong body shows in the folder that it works in, which `rt` and
+scripts/wrong name for that. The sum is the system's own, so the last row has all else: what `rt` itself, linking and
+the programs took, and what was too short to be seen. The exit status is the command's.
 """
 
 import argparse
