@@ -14,11 +14,11 @@ from dataclasses import dataclass
 
 from ..tree import TOP, floors
 from .laws import every_law
+from .parts import rewritten
 
 SOURCE = "the calls say"
 PAGE, PROVED = TOP / "docs/ANSWERS.md", TOP / "docs/PROVED.md"
 CAUSES = TOP / "scripts/lib/pages/causes.txt"
-MADE = re.compile(r"(?s)(?<=<!-- made by scripts/pages write -->\n).*(?=<!-- made until here -->)")
 APART = ("Tests", "Beside cm")  # floors whose crates are no libraries of the program
 DRAWS = ("Pictures",)  # floors whose crates promise only that they return
 HEAD = re.compile(r"(?P<indent> {0}| {4})(?P<public>pub )?(?:const |unsafe )*fn (?P<name>\w+)")
@@ -288,12 +288,8 @@ def table_of_causes():
     yield "\n"
 
 
-def remade(page, text):
-    return MADE.sub(lambda _: text, page.read_text())
-
-
 def made():
-    return {PAGE: remade(PAGE, "".join(tables(every_call()))), PROVED: remade(PROVED, "".join(table_of_causes()))}
+    return {PAGE: rewritten(PAGE, tables(every_call())), PROVED: rewritten(PROVED, table_of_causes())}
 
 
 def findings():

@@ -9,10 +9,10 @@ import re
 import textwrap
 
 from ..tree import TOP, crates, uses_of_each
+from .parts import rewritten
 
 SOURCE = "crates.txt and its table say"
 PAGE = TOP / "docs/SPEED.md"
-PLACE = re.compile(r"(?s)(?<=<!-- chain, by scripts/pages write -->\n).*?(?=<!-- end of chain -->)")
 ROW = re.compile(r"(?m)^\| `(\w+)` \| ([\w. ]+) \| ([\w. ]+) \| [\w. ]+ \|$")
 WIDE = 120
 
@@ -44,14 +44,13 @@ def sentence():
     names = ", ".join(f"`{crate}` {timed.get(crate, (0.0,))[0]:.1f}" for crate in chain)
     return (
         f"The longest chain of crates takes {together:.1f} of these minutes, with the tests of its last crate. It "
-        "has these, "
-        f"with the minutes of their proofs: {names}."
+        f"has these, with the minutes of their proofs: {names}."
     )
 
 
 def made():
-    text = "\n".join(textwrap.wrap(sentence(), WIDE, break_long_words=False, break_on_hyphens=False)) + "\n"
-    return {PAGE: PLACE.sub(lambda _: text, PAGE.read_text())}
+    lines = textwrap.wrap(sentence(), WIDE, break_long_words=False, break_on_hyphens=False)
+    return {PAGE: rewritten(PAGE, (f"{line}\n" for line in lines), "chain")}
 
 
 def findings():

@@ -11,11 +11,11 @@ import re
 from ..edits import BODIES, BY_TESTS, DEFINITIONS, SIZES, Edit
 from ..replay.sizes.table import table as rows_of_sizes
 from ..tree import TOP, crates
+from .parts import rewritten
 
 SOURCE = "the edits say"
 PAGE = TOP / "docs/WRONG_BODIES.md"
 FEWEST = 5  # of each crate, in every run of the checks
-MADE = re.compile(r"(?s)(?<=<!-- made by scripts/pages write -->\n).*(?=<!-- made until here -->)")
 
 
 class WrongBody(Edit):
@@ -126,8 +126,8 @@ def table_of_definitions(edits):
 
 def made():
     bodies, by_tests, definitions = every_edit()
-    tables_made = "".join([*tables(bodies), *table_of_tests(by_tests), *table_of_definitions(definitions)])
-    return {PAGE: MADE.sub(lambda _: tables_made, PAGE.read_text())}
+    every_table = [*tables(bodies), *table_of_tests(by_tests), *table_of_definitions(definitions)]
+    return {PAGE: rewritten(PAGE, every_table)}
 
 
 def findings():

@@ -2,14 +2,12 @@
 that it is refused.
 """
 
-import re
-
 from ..faults import faults
 from ..tree import TOP
+from .parts import rewritten
 
 SOURCE = "examples/faults.txt says"
 PAGE = TOP / "docs/FAULTS_BY_EXAMPLE.md"
-MADE = re.compile(r"(?s)(?<=<!-- made by scripts/pages write -->\n).*(?=<!-- made until here -->)")
 OF_WORDS = ("Words", "Refused, because", "Mend")
 OF_DOCUMENTS = ("Example", "In place of", "Stands", "Line", "Mend")
 
@@ -23,7 +21,7 @@ def tables():
 
 
 def made():
-    return {PAGE: MADE.sub(lambda _: "".join(tables()), PAGE.read_text())}
+    return {PAGE: rewritten(PAGE, tables())}
 
 
 def findings():

@@ -9,10 +9,10 @@ import functools
 import re
 
 from ..tree import TOP, crates
+from .parts import rewritten
 
 SOURCE = "laws and tests say"
 LAWS, TESTS = TOP / "docs/LAWS.md", TOP / "docs/TESTS.md"
-MADE = re.compile(r"(?s)(?<=<!-- made by scripts/pages write -->\n).*(?=<!-- made until here -->)")
 TEST = re.compile(r"(?m)^[ \t]*#\[test\]\n(?:[ \t]*#\[.*\n)*[ \t]*(?:pub )?fn (\w+)\(")
 COUNTED = re.compile(r"\b([\d,]+) laws\b")
 
@@ -83,10 +83,6 @@ def tables_of_tests(tests, page):
         yield f"## `{crate}`\n\n| Test | Stands in | Shows besides |\n|---|---|---|\n{rows}\n\n"
 
 
-def remade(page, tables):
-    return MADE.sub(lambda _: "".join(tables), page)
-
-
 def miscounts(many):
     """A page that says how many laws there are says so rightly."""
     for page in sorted([TOP / "README.md", *TOP.glob("docs/*.md"), *TOP.glob("crates/*/README.md")]):
@@ -102,10 +98,9 @@ def every_law():
 
 def made():
     tests = {crate: of_crate for crate in crates() if (of_crate := list(tests_of(crate)))}
-    page = TESTS.read_text()
     return {
-        LAWS: remade(LAWS.read_text(), tables_of_laws(every_law())),
-        TESTS: remade(page, tables_of_tests(tests, page)),
+        LAWS: rewritten(LAWS, tables_of_laws(every_law())),
+        TESTS: rewritten(TESTS, tables_of_tests(tests, TESTS.read_text())),
     }
 
 

@@ -4,10 +4,10 @@ its number. Those that a version has its own of come first, with the number of e
 import re
 
 from ..tree import TOP
+from .parts import rewritten
 
 SOURCE = "the constants of cm_document say"
 PAGE, LIMITS = TOP / "docs/FORMATS.md", TOP / "crates/cm_document/src/limits.rt"
-PLACE = re.compile(r"(?s)(?<=<!-- limits, by scripts/pages write -->\n).*?(?=<!-- end of limits -->)")
 CONSTANT = re.compile(r"(?m)^/// (?:The|An) (.*)\.\npub const (\w+): \w+ = ([\d_]+);$")
 VERSIONED = re.compile(r"(?ms)^pub const LIMITS_(\d): VersionLimits = VersionLimits {\n(.*?)^};$")
 APART = ("FIRST_VERSION", "SECOND_VERSION")  # no limits
@@ -40,7 +40,7 @@ def rows():
 
 
 def made():
-    return {PAGE: PLACE.sub(lambda _: "".join(rows()), PAGE.read_text())}
+    return {PAGE: rewritten(PAGE, rows(), "limits")}
 
 
 def findings():

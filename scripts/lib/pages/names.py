@@ -49,10 +49,9 @@ def columns_of(block):
     return ["\n".join(column) for column in zip(*rows)] if len({len(row) for row in rows}) == 1 else [block]
 
 
-def headings_of(file):
-    """Returns what links call the headings of a page."""
-    headings = re.findall(r"(?m)^#+ (.*)$", file.read_text())
-    return {re.sub(r"[^\w\- ]", "", heading.lower()).replace(" ", "-") for heading in headings}
+def anchor(heading):
+    """Returns what links call a heading."""
+    return re.sub(r"[^\w\- ]", "", heading.lower()).replace(" ", "-")
 
 
 def links_missing(page, text):
@@ -62,7 +61,7 @@ def links_missing(page, text):
             continue
         if not file.exists():
             yield f"links {link}, which is not there"
-        elif heading and heading not in headings_of(file):
+        elif heading and heading not in map(anchor, re.findall(r"(?m)^#+ (.*)$", file.read_text())):
             yield f"links {link}#{heading}, and that page has no such heading"
 
 

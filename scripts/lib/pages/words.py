@@ -14,10 +14,11 @@ import re
 
 from ..tree import TOP
 from .answering import Definitions, read
+from .names import anchor
+from .parts import rewritten
 
 SOURCE = "the definitions, rules and tests say"
 PAGE = TOP / "docs/WORDS.md"
-MADE = re.compile(r"(?s)(?<=<!-- made by scripts/pages write -->\n).*(?=<!-- made until here -->)")
 SPAN = re.compile(r"`([^`\n]+)`")
 TABLE = "| Word | Rule | Definition | Example | Tests |\n|---|---|---|---|---|\n"
 # The items of cycles and lists, whose printing decides nothing, with the definition of what each tells.
@@ -90,10 +91,6 @@ def sections(page):
     return dict(zip(parts[1::2], parts[2::2]))
 
 
-def anchor(heading):
-    return re.sub(r"[^\w\- ]", "", heading.lstrip("# ").lower()).replace(" ", "-")
-
-
 def plain(heading):
     return re.sub(r" \(.*\)$", "", heading.lstrip("# "))
 
@@ -145,7 +142,7 @@ class Words:
         if not (answering and page):
             return ""
         headings = [*dict.fromkeys(named[name] for name in answering)]
-        rules = ", ".join(f"[{plain(it)}]({family.page}.md#{anchor(it)})" for it in headings)
+        rules = ", ".join(f"[{plain(it)}]({family.page}.md#{anchor(it.lstrip('# '))})" for it in headings)
         files = [*dict.fromkeys(definitions.file[name] for name in answering)]
         places = "; ".join(
             self.place(family.crate, file, [it for it in answering if definitions.file[it] == file]) for file in files
@@ -180,7 +177,7 @@ class Words:
 def words_made():
     """Returns the page's text, and the faults that were found on the way."""
     words = Words()
-    return MADE.sub(lambda _: "".join(words.tables()), PAGE.read_text()), words.faults
+    return rewritten(PAGE, words.tables()), words.faults
 
 
 def made():
