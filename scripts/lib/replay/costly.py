@@ -4,8 +4,8 @@ import itertools
 import string
 
 from ..documents import SEPARATOR, head
+from .traces import LONGEST
 
-LONGEST = 1_048_576
 HEAD, END = head(1), SEPARATOR
 COMPONENT = '[[component]]\nname = "c"\nkind = "system"\n'
 JOINT = '[[component.joint]]\nname = "{}"\nvmax = 1\n'

@@ -24,8 +24,7 @@ from pathlib import Path
 from ..tool import Tally
 from ..tree import TOP
 from . import programs
-from .examples import EXAMPLES, words_of
-from .memory import CASES
+from .examples import CASES, read_documents, words_of
 from .other import JUDGED, judge
 
 PAGE = TOP / "docs/FAULTS.md"
@@ -96,12 +95,6 @@ def by_turns(program, other):
 # ---- By bytes
 
 
-def documents():
-    """The documents that are read."""
-    every = [*sorted(EXAMPLES.glob("*.cm")), *sorted(CASES.glob("*.cm"))]
-    return [document for document in every if "--make" not in words_of(document)]
-
-
 def is_compared(number, text, left):
     """Whether the document of this number is compared if it is cut behind so many bytes and not all are compared."""
     return left % STRIDE == number % STRIDE or text[left - 1 : left] == b"\n"
@@ -170,7 +163,7 @@ def main(asked):
         print("no other implementation is named: the program is not compared with one")
     one = functools.partial(tried, program, asked.other, asked.whole)
     with ProcessPoolExecutor(asked.jobs) as pool:
-        for count, found in pool.map(one, enumerate(documents())):
+        for count, found in pool.map(one, enumerate(read_documents())):
             tally.passed += count - len(found)
             for name, why in found:
                 tally.tell(name, why)

@@ -15,7 +15,7 @@ from ..tool import Tally
 from ..tree import TOP
 from . import live, programs
 
-EXAMPLES = TOP / "examples"
+EXAMPLES, CASES = TOP / "examples", TOP / "scripts/cases"
 LIVE = "live"
 # The jobs that may have several workers.
 SHARED = ("run", "steps", LIVE)
@@ -44,6 +44,12 @@ def beside(document, ending):
 def words_of(document):
     args = beside(document, ".args")
     return args.read_text().split("\n")[:-1] if args.exists() else ["run"]
+
+
+def read_documents():
+    """Returns the examples and cases that are read, and not made."""
+    every = [*sorted(EXAMPLES.glob("*.cm")), *sorted(CASES.glob("*.cm"))]
+    return [document for document in every if "--make" not in words_of(document)]
 
 
 def reason(document, program, writes, workers=None):

@@ -25,10 +25,9 @@ from pathlib import Path
 from ..tool import Tally
 from ..tree import TOP
 from . import live, programs
-from .examples import EXAMPLES, LIVE, beside, words_of
+from .examples import CASES, EXAMPLES, LIVE, beside, words_of
 from .refusing import ALONE, ON, WAYS, Refusing, library
 
-CASES = TOP / "scripts/cases"
 RUN_LIVE = (CASES / "every_cause.cm", EXAMPLES / "operators.cm")
 MADE, SUMMARY = ["run", "--make", "3"], TOP / "examples/made.cm.stdout"
 WELL, WANT = (0, b""), (7, b"cm: out of memory\n")

@@ -24,11 +24,11 @@ import tty
 from ..tool import Tally
 from ..tree import TOP
 from . import programs
+from .traces import LONGEST
 
 LIMIT = 60  # seconds
 JOBS = ("run", "live")  # without sessions both print the same
 PIECE = 8192  # so many bytes are read and written at a time
-LONGEST = 1_048_576  # bytes of a document
 LEAST = b"version = 1\nupdate_rate = 1\ncycles = 0\n--- script ---\n"
 LEAST_TRACE = b"loop close: none\n"
 ROOM = 20_000  # bytes of a file that may not grow longer

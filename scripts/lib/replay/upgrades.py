@@ -18,9 +18,8 @@ from pathlib import Path
 
 from ..tool import Tally
 from . import programs
-from .examples import EXAMPLES, LIVE, words_of
+from .examples import LIVE, read_documents, words_of
 from .limits import FEW, VERSIONS, Limits
-from .memory import CASES
 from .other import JUDGED, judge
 from .traces import LONGEST
 
@@ -99,9 +98,9 @@ def random_documents(asked, program, tally):
 
 def main(asked):
     program, tally = programs.program(asked), Tally()
-    for document in (*sorted(EXAMPLES.glob("*.cm")), *sorted(CASES.glob("*.cm"))):
+    for document in read_documents():
         words = words_of(document)
-        if "--make" not in words and "check" not in words:
+        if "check" not in words:
             tally.tell(document.name, tried(document.read_bytes(), program, words)[1])
     for version in VERSIONS:
         kind, why = tried(Limits(version).document("run", FEW)[0], program, ["run"])

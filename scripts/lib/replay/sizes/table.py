@@ -5,6 +5,7 @@ import re
 from dataclasses import dataclass
 from typing import Callable, Optional
 
+from ..faults import USAGE
 from . import calls, descriptions
 from .parts import (
     BLANKS,
@@ -78,7 +79,6 @@ LISTS = {
     "not_ready": "controller[0]",
     "fail_update": "controller[0]",
 }
-USAGE = re.search(r"(?m)^    cm: (usage: .*)$", (TOP / "docs/TRACE.md").read_text())[1]
 NESTING = int(re.search(r"nesting\s+deeper\s+than\s+(\d+)", (TOP / "docs/FORMATS.md").read_text())[1])
 
 
