@@ -6,11 +6,11 @@ from dataclasses import dataclass, field
 from .gains import tuning
 from .listing import Place, Refused, plain, quoted
 from .names import Names
+from .quantities import HIGHEST_RATE
 from .yaml_files import nodes_of, value_of, yaml_file
 
 MANAGER = "controller_manager"
 USUAL_RATE = 100  # hertz, of a manager that is told none
-HIGHEST_RATE = 10_000
 INITIAL = "hardware_components_initial_state"
 TYPE = re.compile(r"[a-z]\w*/[A-Z]\w*", re.ASCII)
 FALLBACKS = "fallback_controllers"

@@ -7,6 +7,7 @@ from .listing import Refused, quoted
 
 MOST_UNITS = 1_000_000_000  # a quantity lies between this and its negative
 DECIMALS = 6
+HIGHEST_RATE = 10_000  # hertz
 MOST_SHOWN = 20  # digits of a number that a line shows
 MICRO = Decimal(1).scaleb(-DECIMALS)
 # Digits that are held while a number is rounded: all that it may have.

@@ -229,7 +229,7 @@ class Reading:
         name = self.joint_names.add(given, tag.place)
         if mimic := self.limits[given].mimic:
             self.listing.left_out(mimic, f"mimic of joint {quoted(given)}, which stands still if nobody commands it")
-        return Joint(tag.place, given, name, self.vmax(given, self.limits[given]))
+        return Joint(tag.place, given, name, self.rounded_limits(given, self.limits[given]))
 
     def contents(self, component, joint, tag):
         for child in tag.children:
@@ -241,7 +241,8 @@ class Reading:
             else:
                 self.leave_out_or_refuse(child, f"joint {quoted(joint.given)}")
 
-    def vmax(self, given, limits):
+    def rounded_limits(self, given, limits):
+        """Returns what the joint may do, with a velocity that has no more than six decimals."""
         what = f"the velocity limit of joint {quoted(given)}"
         if limits.velocity is None:
             self.listing.made_up(limits.place, f"{what} is {MOST_UNITS}, because the URDF has none")
