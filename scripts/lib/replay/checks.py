@@ -7,12 +7,11 @@ long is left out. Prints a line an example, and last `N passed, M failed`. The e
 """
 
 import re
-from pathlib import Path
 
 from ..tool import Tally
 from . import programs
 from .examples import EXAMPLES, words_of
-from .other import JUDGED, judge
+from .other import JUDGED, judge, other_option
 from .traces import LONGEST, SEPARATOR, with_trace
 
 MOST_LINES = 40  # of a trace that are changed, spread over all of them
@@ -20,9 +19,7 @@ WRONG = re.compile(rb"cm: trace: line ([0-9]+)\n")
 
 
 def options(parser):
-    parser.add_argument(
-        "--other", type=Path, metavar="FOLDER", help="of another implementation, which judges each trace too"
-    )
+    other_option(parser, "which judges each trace too")
     programs.options(parser)
 
 

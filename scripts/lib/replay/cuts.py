@@ -19,13 +19,12 @@ import itertools
 import os
 import re
 from concurrent.futures import ProcessPoolExecutor
-from pathlib import Path
 
 from ..tool import Tally
 from ..tree import TOP
 from . import programs
 from .examples import CASES, read_documents, words_of
-from .other import JUDGED, judge
+from .other import JUDGED, judge, other_option
 
 PAGE = TOP / "docs/FAULTS.md"
 SEPARATOR, TRACE = b"--- script ---", b"--- trace ---"
@@ -43,9 +42,7 @@ loop close: none
 
 
 def options(parser):
-    parser.add_argument(
-        "--other", type=Path, metavar="FOLDER", help="of another implementation, with whose answers these are compared"
-    )
+    other_option(parser, "with whose answers these are compared")
     parser.add_argument("--whole", action="store_true", help="each cut is compared with it, which takes minutes")
     parser.add_argument("--jobs", type=int, default=os.cpu_count(), help="how many documents are run side by side")
     programs.options(parser)

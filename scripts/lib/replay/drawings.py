@@ -21,7 +21,7 @@ from ..tree import TOP
 from . import programs
 from .layout import names, places
 from .log import Told, log, whys
-from .other import STAGE
+from .other import STAGE, other_option
 from .page import Page
 
 SEPARATOR = re.compile(rb"(?m)^--- script ---\r?$")
@@ -32,7 +32,7 @@ RUNS = (["run"], ["steps"])
 
 
 def options(parser):
-    parser.add_argument("--other", type=Path, metavar="FOLDER", help="of an implementation that makes random documents")
+    other_option(parser, "which makes random documents")
     parser.add_argument("--count", type=int, default=200, help="so many random documents, 200 if it is not said")
     parser.add_argument("--keep", type=Path, metavar="FOLDER", help="where the pages are put")
     programs.options(parser, drawer=True)

@@ -11,12 +11,11 @@ and last `N passed, M failed`. The exit status is 1 if one failed.
 """
 
 from dataclasses import dataclass
-from pathlib import Path
 
 from ..documents import KINDS, component, controller, document, group, head, joint, listed
 from ..tool import Tally
 from . import programs
-from .other import JUDGED, judge
+from .other import JUDGED, judge, other_option
 from .sizes.parts import (
     BLANKS,
     CALLS,
@@ -42,9 +41,7 @@ MEMBERS = limit("cm_document::MOST_MEMBERS")
 
 
 def options(parser):
-    parser.add_argument(
-        "--other", type=Path, metavar="FOLDER", help="of another implementation, with whose answers these are compared"
-    )
+    other_option(parser, "with whose answers these are compared")
     parser.add_argument("--whole", action="store_true", help="for as many cycles as there may be, too")
     programs.options(parser)
 

@@ -18,12 +18,11 @@ import itertools
 import os
 import random
 import re
-from pathlib import Path
 
 from ..documents import component, controller, document, head, joint, named
 from ..tree import TOP
 from . import programs
-from .other import JUDGED, STAGE, judge
+from .other import JUDGED, STAGE, judge, other_option
 from .traces import LONGEST, SEPARATOR, aloft, before_close, calls_of, scheduled, with_trace
 
 LIMIT = 60  # seconds; a run takes some hundredths of one
@@ -36,9 +35,7 @@ def options(parser):
     parser.add_argument("--times", type=int, default=4, help="how often a document is run, 4 if it is not said")
     parser.add_argument("--first", type=int, default=1, help="the seed of the first document that is made")
     parser.add_argument("--processors", type=int, help="on so many processors alone")
-    parser.add_argument(
-        "--other", type=Path, metavar="FOLDER", help="of another implementation, which judges and makes documents too"
-    )
+    other_option(parser, "which judges and makes documents too")
     programs.options(parser)
 
 

@@ -2,10 +2,16 @@
 
 import functools
 import sys
+from pathlib import Path
 
 STAGE = "r16"  # of the documents that it makes
 JUDGED = "r18"  # what it is told that a document may have: every kind of controller
 PLANNED = "r20"  # and that plans and workers are asked for: the program has no later word
+
+
+def other_option(parser, what):
+    """Lets the words name another implementation, of which the help says what it does here."""
+    parser.add_argument("--other", type=Path, metavar="FOLDER", help=f"of another implementation, {what}")
 
 
 @functools.cache

@@ -10,12 +10,11 @@ failed`. The exit status is 1 if one failed.
 import itertools
 import os
 from concurrent.futures import ThreadPoolExecutor
-from pathlib import Path
 
 from ..documents import SEPARATOR
 from ..tool import Tally
 from . import programs
-from .other import PLANNED, judge
+from .other import PLANNED, judge, other_option
 
 MOST = 4  # controllers that are wanted together
 
@@ -41,9 +40,7 @@ NAMES = ("fwd", "pid", "traj", "traj2", "jsb", "mk", "late", "pt")
 
 
 def options(parser):
-    parser.add_argument(
-        "--other", type=Path, metavar="FOLDER", help="of another implementation, which plans each set too"
-    )
+    other_option(parser, "which plans each set too")
     programs.options(parser)
 
 

@@ -14,13 +14,12 @@ import os
 import sys
 from collections import Counter
 from concurrent.futures import ProcessPoolExecutor
-from pathlib import Path
 
 from ..tool import Tally
 from . import programs
 from .examples import LIVE, read_documents, words_of
 from .limits import FEW, VERSIONS, Limits
-from .other import JUDGED, judge
+from .other import JUDGED, judge, other_option
 from .traces import LONGEST
 
 SEPARATOR = b"--- script ---"
@@ -31,9 +30,7 @@ AT_ONCE = 400  # random documents, before it is looked whether there are enough
 
 
 def options(parser):
-    parser.add_argument(
-        "--other", type=Path, metavar="FOLDER", help="of another implementation that makes random documents"
-    )
+    other_option(parser, "which makes random documents")
     parser.add_argument(
         "--count", type=int, default=2000, help="so many random documents that run, 2,000 if it is not said"
     )

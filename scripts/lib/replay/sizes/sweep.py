@@ -15,10 +15,9 @@ import re
 import sys
 import time
 from concurrent.futures import ProcessPoolExecutor
-from pathlib import Path
 
 from .. import programs
-from ..other import JUDGED, PLANNED, judge
+from ..other import JUDGED, PLANNED, judge, other_option
 from .parts import without_row
 from .table import table
 
@@ -28,9 +27,7 @@ STATUSES = {"usage": 2, "description": 3, "script": 4, "document longer than": 6
 
 
 def options(parser):
-    parser.add_argument(
-        "--other", type=Path, metavar="FOLDER", help="of another implementation, with whose answers these are compared"
-    )
+    other_option(parser, "with whose answers these are compared")
     parser.add_argument("--jobs", type=int, default=os.cpu_count(), help="how many documents are run side by side")
     parser.add_argument("rows", nargs="*", metavar="ROW", help="of the table, by its name: these alone")
     programs.options(parser)
