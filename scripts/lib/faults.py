@@ -69,7 +69,7 @@ def fault_of(paragraph):
         if mark == "-":
             fault.before = says
         elif times:
-            fault.pieces.append(Piece(int(times[1]), [times[2]] if times[2] else [], bool(times[2])))
+            fault.pieces.append(Piece(int(times[1]), [*filter(None, [times[2]])], on_one_line=bool(times[2])))
         elif line == "once":
             fault.pieces.append(Piece())
         elif mark == "+":
