@@ -9,7 +9,8 @@ pub const PAGE_WIDTH: u64 = 1_200;
 /// The blank beside all that is drawn, in pixels.
 pub const MARGIN: u64 = 24;
 
-/// How wide a letter of a text in fixed width is, in hundredths of a pixel: six tenths of 12 pixels.
+/// How wide a letter of a text in fixed width is, in hundredths of a pixel: 0.602 of 12 pixels, as in DejaVu Sans Mono,
+/// rounded up.
 const LETTER: u64 = 723;
 
 /// A length on the page, or a distance from its left or top, in hundredths of a pixel.

@@ -1,10 +1,10 @@
 //! Numbers as the picture prints them: without the zeros behind their last decimal.
 
-use fixed_num::Memory;
+use fixed_num::{DECIMALS, MICRO, Memory};
 use std::alloc::Global;
 
 /// How many micro-units a unit is.
-const UNIT: u64 = 1_000_000;
+const UNIT: u64 = MICRO as u64;
 
 /// A number of micro-units, in units.
 pub fn short(alloc: Global, micro: i64) -> Result<String, Memory> {
@@ -22,7 +22,7 @@ fn push_decimals(text: &mut String, micro: u64) -> Result<(), Memory> {
         text.push_str(".")?;
     }
     let mut left = micro;
-    for _decimal in 0..6 {
+    for _decimal in 0..DECIMALS {
         if left > 0 {
             let shifted = left.saturating_mul(10);
             let digit = shifted / UNIT;

@@ -131,10 +131,10 @@ fn named(letter: char) -> Option<&'static str> {
     }
 }
 
-/// The first letters of a text, and a dot for what is left out.
+/// The first letters of a text, and an ellipsis if letters are left out.
 pub fn shortened(alloc: Global, words: &str, most: usize) -> Result<String, Memory> {
     let mut text = String::new(alloc);
-    if words.len() <= most {
+    if words.chars().count() <= most {
         text.push_str(words)?;
         return Ok(text);
     }
