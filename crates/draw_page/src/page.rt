@@ -6,7 +6,7 @@ use crate::keys::{draw_curve_keys, draw_link_keys, draw_run_keys};
 use crate::style::STYLE;
 use crate::warnings::{draw_warnings, push_warnings};
 use crate::wrong::{WrongTrace, draw_wrong, push_wrong};
-use cm_document::{CtlKind, Description, JointDesc, Script};
+use cm_document::{CompDesc, CtlDesc, CtlKind, Description, JointDesc, Script};
 use cm_model::Entry;
 use draw_cycles::{Run, Strip, draw_log, draw_run, push_whys};
 use draw_links::draw_links;
@@ -15,7 +15,9 @@ use draw_svg::{MARGIN, PAGE_WIDTH, PagePoint, Px, Svg, shortened};
 use fixed_num::Memory;
 use std::alloc::Global;
 
-/// The most letters that have room beside the columns.
+/// The fewest letters for which there is room beside the columns, and the most.
+const LEAST_LETTERS: usize = 14;
+
 const MOST_LETTERS: usize = 40;
 
 /// The most letters of the document's name that are drawn.
@@ -30,14 +32,7 @@ pub fn page_of(
     script: &Script,
     history: &[Entry],
 ) -> Result<String, Memory> {
-    let joints = joints_of(alloc, description)?;
-    let links = links_of(alloc, description, joints.as_slice())?;
-    let linked = Linked {
-        description,
-        joints: joints.as_slice(),
-        links: links.as_slice(),
-    };
-    page_of_linked(alloc, name, linked, script, history, None)
+    trace_page_of(alloc, name, description, script, history, None)
 }
 
 /// The page of a stored trace, whose lines tell this history up to the first that is wrong.
@@ -159,22 +154,44 @@ fn page(
 
 /// Where the names beside the columns end. The ends of a joint's range, so many letters, stand behind its name.
 fn names_end(description: &Description, joints: &[(usize, &JointDesc)], values: usize) -> Px {
-    let mut longest = 14usize;
-    for controller in description.controllers.as_slice() {
-        longest = longest.max(controller.name.as_str().len());
-        if controller.params.kind() == CtlKind::Limiter {
-            let both = controller.name.as_str().len().saturating_add(values);
-            longest = longest.max(both.saturating_add(9));
-        }
+    let longest = LEAST_LETTERS
+        .max(longest_controller(description.controllers.as_slice(), values))
+        .max(longest_component(description.components.as_slice()))
+        .max(longest_joint(joints, values));
+    Px::letters(longest.min(MOST_LETTERS)).plus(Px::of(MARGIN + 12))
+}
+
+/// The length of the longest name of a controller, of a limiter with its values.
+fn longest_controller(controllers: &[CtlDesc], values: usize) -> usize {
+    let mut longest = 0usize;
+    for controller in controllers {
+        let name = controller.name.as_str().len();
+        let whole = match controller.params.kind() {
+            CtlKind::Limiter => name.saturating_add(values).saturating_add(9),
+            _ => name,
+        };
+        longest = longest.max(whole);
     }
-    for component in description.components.as_slice() {
+    longest
+}
+
+/// The length of the longest name of a component.
+fn longest_component(components: &[CompDesc]) -> usize {
+    let mut longest = 0usize;
+    for component in components {
         longest = longest.max(component.name.as_str().len());
     }
+    longest
+}
+
+/// The length of the longest name of a joint, with its values.
+fn longest_joint(joints: &[(usize, &JointDesc)], values: usize) -> usize {
+    let mut longest = 0usize;
     for (_, joint) in joints {
         let both = joint.name.as_str().len().saturating_add(values);
         longest = longest.max(both.saturating_add(2));
     }
-    Px::letters(longest.min(MOST_LETTERS)).plus(Px::of(MARGIN + 12))
+    longest
 }
 
 /// Draws all between the heading and the curves, and gives where it ends.

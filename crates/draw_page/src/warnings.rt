@@ -1,12 +1,13 @@
 //! What a builder is warned of: limiters that stand for ever.
 
 use cm_document::{CtlDesc, Description, Params};
+use cm_model::SECOND_US;
 use draw_svg::{MARGIN, PagePoint, Px, Svg, short};
 use fixed_num::Memory;
 use std::alloc::Global;
 
-/// A second, in microseconds.
-const SECOND_US: u64 = 1_000_000;
+/// A second in microseconds, wide enough for its square.
+const SECOND: u64 = SECOND_US as u64;
 
 /// Draws a line for each limiter that stands for ever, and gives where they end.
 pub fn draw_warnings(
@@ -64,14 +65,14 @@ fn missed(description: &Description, controller: &CtlDesc) -> Option<i64> {
     };
     let time = update_time(description.update_rate, controller.rate);
     let squared = time.saturating_mul(time).max(1);
-    let least = (SECOND_US * SECOND_US - 1) / squared;
+    let least = (SECOND * SECOND - 1) / squared;
     let least = i64::try_from(least.saturating_add(1)).unwrap_or(i64::MAX);
     (amax.micro() < least).then_some(least)
 }
 
 /// The time between two updates of a controller of this rate, in microseconds.
 fn update_time(manager: u32, rate: u32) -> u64 {
-    let period = SECOND_US / u64::from(manager.max(1));
+    let period = SECOND / u64::from(manager.max(1));
     if rate == 0 || manager <= rate {
         return period;
     }
