@@ -154,11 +154,10 @@ fn draw_link(svg: &mut Svg, area: Area) -> Result<(), Memory> {
     svg.line("link", PagePoint { x: area.x, y }, PagePoint { x: end, y })
 }
 
-/// How far below a row's top its bar begins, and how high it is: who is active stands out.
+/// How far below a row's top its bar begins, and how high it is: who is active or finalized stands out.
 fn band(shown: ColumnState) -> (u64, u64) {
     match shown {
-        ColumnState::Active | ColumnState::Chained => (3, 22),
-        ColumnState::Finalized => (3, 22),
+        ColumnState::Active | ColumnState::Chained | ColumnState::Finalized => (3, 22),
         _ => (7, 14),
     }
 }

@@ -111,7 +111,7 @@ fn mark_in(strip: &Strip, column: usize, event: Event, count: u64) -> Placed {
     }
 }
 
-/// One mark more, beside the last one. Where it would have to be moved too far, the last one stands for both.
+/// One mark more, beside the last one. If it would have to be moved too far, the last one stands for both.
 fn push_mark(marks: &mut Vec<Placed>, mark: Placed) -> Result<(), Memory> {
     let free = match marks.last() {
         Some(last) => last.x.plus(last.reach()).plus(mark.reach()),

@@ -6,6 +6,9 @@ use draw_svg::{MARGIN, PAGE_WIDTH, Px};
 /// The widest column, in pixels.
 const WIDEST_COLUMN: u64 = 128;
 
+/// The most numbers that stand on the axis.
+const MOST_NUMBERS: u64 = 16;
+
 /// The columns of a run, and where they stand.
 #[derive(Clone, Copy)]
 pub struct Strip {
@@ -62,20 +65,27 @@ impl Strip {
         cycles.div_ceil(self.between_numbers().max(1))
     }
 
-    /// How many cycles lie between two numbers on the axis: 1, 2 or 5 times a power of ten, so that no more than 16
-    /// stand there.
+    /// How many cycles lie between two numbers on the axis: 1, 2 or 5 times a power of ten, so that no more than
+    /// `MOST_NUMBERS` stand there.
     pub fn between_numbers(&self) -> u64 {
-        let cycles = self.columns.cycles();
-        let mut step = 1u64;
+        let mut power = 1u64;
         for _power in 0..6 {
-            for factor in [1, 2, 5] {
-                let wide = step.saturating_mul(factor);
-                if wide.saturating_mul(16) >= cycles {
-                    return wide;
-                }
+            if let Some(step) = self.step_of(power) {
+                return step;
             }
-            step = step.saturating_mul(10);
+            power = power.saturating_mul(10);
         }
-        step
+        power
+    }
+
+    /// The least of 1, 2 and 5 times this power of ten with which few enough numbers stand on the axis.
+    fn step_of(&self, power: u64) -> Option<u64> {
+        for factor in [1, 2, 5] {
+            let step = power.saturating_mul(factor);
+            if step.saturating_mul(MOST_NUMBERS) >= self.columns.cycles() {
+                return Some(step);
+            }
+        }
+        None
     }
 }
