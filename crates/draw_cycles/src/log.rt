@@ -75,7 +75,7 @@ fn at(left: u64, y: Px) -> PagePoint {
     PagePoint { x: Px::of(left), y }
 }
 
-/// The lines of one. Where it has too many, the last one says how many are left out.
+/// The lines of one. If it has too many, the last one says how many are left out.
 fn lines_of(alloc: Global, answered: &Answered<'_>) -> Result<Vec<String>, Memory> {
     let mut words = String::new(alloc);
     push_answered(&mut words, answered)?;
@@ -98,7 +98,7 @@ fn draw_answered(
     lines: &[String],
 ) -> Result<Px, Memory> {
     let title = answered_title(alloc, answered)?;
-    let event = event_of(answered.became);
+    let event = answered.event();
     draw_mark(
         alloc,
         svg,
@@ -150,16 +150,6 @@ fn draw_facts(
         svg.words("row", at(WHO, y), who.as_str(), name)?;
     }
     Ok(())
-}
-
-/// How what became of a call is marked.
-fn event_of(became: Became<'_>) -> Event {
-    match became {
-        Became::Decided(Outcome::Done { dropped }) if dropped.as_slice().is_empty() => Event::Done,
-        Became::Decided(Outcome::Done { .. }) => Event::Partly,
-        Became::Decided(Outcome::LoopEnded) => Event::Ended,
-        Became::Decided(Outcome::Refused(..)) | Became::Not(_) => Event::Refused,
-    }
 }
 
 /// Draws how many there are more, and gives where that ends.

@@ -9,7 +9,7 @@ use crate::placed::{Placed, marks_of};
 use crate::strip::Strip;
 use cm_document::Description;
 use draw_causes::{Failure, failure_words};
-use draw_replay::{Event, Replay, Row, RowCell};
+use draw_replay::{Answered, Event, Replay, Row, RowCell};
 use draw_svg::{MARGIN, PagePoint, Px, Svg, push_cycles, shortened};
 use fixed_num::Memory;
 use std::alloc::Global;
@@ -186,12 +186,17 @@ fn event_title(
         (Event::UpdateFailed, _) => failure_title(alloc, name, Failure::Update, cycle)?,
         (Event::WriteFailed, _) => failure_title(alloc, name, Failure::Write, cycle)?,
         (Event::ReadFailed, _) => failure_title(alloc, name, Failure::Read, cycle)?,
-        _ => match run.replay.answered.get(cell.answered) {
+        _ => match answered_in(run, cell) {
             Some(answered) => answered_title(alloc, answered)?,
             None => format!(in alloc; "{name}: cycle {cycle}")?,
         },
     };
     Ok(title)
+}
+
+/// The call by which the most serious happened in a column, if it was one.
+fn answered_in<'a>(run: Run<'a>, cell: &RowCell) -> Option<&'a Answered<'a>> {
+    run.replay.answered.get(cell.answered?)
 }
 
 /// What failed of whom, and when.
@@ -229,11 +234,7 @@ fn draw_ticket(
     mark: &Placed,
     cell: &RowCell,
 ) -> Result<(), Memory> {
-    let ticket = run
-        .replay
-        .answered
-        .get(cell.answered)
-        .and_then(|it| it.ticket);
+    let ticket = answered_in(run, cell).and_then(|it| it.ticket);
     let count = mark.count;
     let text = match ticket {
         Some(ticket) if count == 1 => format!(in alloc; "{ticket}")?,

@@ -15,7 +15,7 @@ pub struct Sample {
     pub most: i64,
     /// The last.
     pub last: i64,
-    /// Where it was commanded to be last, where it was.
+    /// The last commanded position, if there was one.
     pub command: Option<i64>,
 }
 
@@ -48,13 +48,9 @@ impl JointCourse {
 
     /// Of what is nowhere else yet.
     pub fn still(alloc: Global, start: i64, columns: usize) -> Result<JointCourse, Memory> {
-        let mut samples = Vec::new(alloc);
-        for _column in 0..columns {
-            samples.push(None)?;
-        }
         Ok(JointCourse {
             start,
-            samples,
+            samples: vec![in alloc; None; columns]?,
             own: None,
             reference: None,
         })

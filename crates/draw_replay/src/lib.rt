@@ -7,8 +7,9 @@ pub use course::{JointCourse, Sample};
 pub use incidents::Incident;
 pub use limiters::LimiterCourse;
 pub use links::{ControllerLinks, Link, Linked, joints_of, links_of};
+pub use outcomes::{Answered, Became};
 pub use present::Asked;
-pub use replay::{Answered, Became, Replay, RunCounts};
+pub use replay::{Replay, RunCounts};
 pub use rows::{ColumnState, Event, Row, RowCell};
 
 mod columns;

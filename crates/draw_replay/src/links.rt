@@ -12,7 +12,7 @@ pub struct Link {
     pub joint: usize,
     /// What the interface carries.
     pub kind: Kind,
-    /// The place of the controller whose reference it is; of none where it is the joint's own.
+    /// The place of the controller whose reference it is; none if the interface is the joint's own.
     pub follower: Option<usize>,
 }
 
@@ -110,30 +110,24 @@ fn link_to(controllers: &[CtlDesc], joints: &[(usize, &JointDesc)], interface: &
 }
 
 fn joint_place(joints: &[(usize, &JointDesc)], name: &Name) -> usize {
-    for (place, (_, joint)) in joints.iter().enumerate() {
-        if joint.name == *name {
-            return place;
-        }
-    }
-    0
+    joints
+        .iter()
+        .position(|(_, joint)| joint.name == *name)
+        .unwrap_or(0)
 }
 
 /// The place of the controller of this name.
 pub fn controller_place(controllers: &[CtlDesc], name: &Name) -> Option<usize> {
-    for (place, controller) in controllers.iter().enumerate() {
-        if controller.name == *name {
-            return Some(place);
-        }
-    }
-    None
+    controllers
+        .iter()
+        .position(|controller| controller.name == *name)
 }
 
 /// The place of the component of this name.
 pub fn component_place(description: &Description, name: &Name) -> Option<usize> {
-    for (place, component) in description.components.as_slice().iter().enumerate() {
-        if component.name == *name {
-            return Some(place);
-        }
-    }
-    None
+    description
+        .components
+        .as_slice()
+        .iter()
+        .position(|component| component.name == *name)
 }

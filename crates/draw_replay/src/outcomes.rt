@@ -1,9 +1,49 @@
-//! What became of a request: how it is marked, and who of those that it names is switched.
+//! What became of a call: how it is marked, and who of those that a request names is switched.
 
+use crate::present::Asked;
 use crate::rows::Event;
-use cm_model::{Cause, Dropped, Outcome};
+use cm_document::{CtlDesc, GroupDesc};
+use cm_model::{Cause, Dropped, Outcome, Why};
 use draw_causes::is_own;
 use iface_names::Name;
+
+/// What became of a call that asked for something.
+#[derive(Clone, Copy)]
+pub enum Became<'a> {
+    /// It was a request, and a begin or the close decided it.
+    Decided(&'a Outcome),
+    /// It did nothing, for this reason. A request got no ticket.
+    Not(Why),
+}
+
+/// A request that was decided, fallbacks that were asked for, or a call that did nothing.
+#[derive(Drop)]
+pub struct Answered<'a> {
+    /// The cycle at whose begin it was decided, or before whose end the call came; the number of cycles where all had
+    /// ended.
+    pub cycle: u64,
+    /// The ticket of a request that got one.
+    pub ticket: Option<u32>,
+    /// The name of the session that asked, and what it asked, where that is known.
+    pub asked: Option<Asked<'a>>,
+    /// The described groups that it named, each once.
+    pub groups: Vec<&'a GroupDesc>,
+    /// The controllers whose fallbacks were asked for because their updates failed, in the order of these; of a
+    /// request, none.
+    pub failed: Vec<&'a CtlDesc>,
+    /// What became of it.
+    pub became: Became<'a>,
+}
+
+impl Answered<'_> {
+    /// What it comes to, as it is marked.
+    pub fn event(&self) -> Event {
+        match self.became {
+            Became::Decided(outcome) => event_of(outcome),
+            Became::Not(_) => Event::Refused,
+        }
+    }
+}
 
 /// What a request comes to, as it is marked.
 pub fn event_of(outcome: &Outcome) -> Event {

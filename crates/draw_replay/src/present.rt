@@ -60,13 +60,13 @@ impl<'a> Present<'a> {
         Ok(Present {
             description,
             links,
-            lives: same(alloc, links.len(), None)?,
-            chained: same(alloc, links.len(), false)?,
+            lives: vec![in alloc; None; links.len()]?,
+            chained: vec![in alloc; false; links.len()]?,
             erred: Vec::new(alloc),
             components: initial(alloc, description)?,
             ended: 0,
             sessions,
-            made: same(alloc, sessions.len(), 0)?,
+            made: vec![in alloc; 0; sessions.len()]?,
             places: Vec::new(alloc),
             asked: Vec::new(alloc),
         })
@@ -188,7 +188,7 @@ impl<'a> Present<'a> {
         Ok(())
     }
 
-    /// Those whose fallbacks are asked for now, and then for nobody's.
+    /// Takes the controllers whose fallbacks are asked for now.
     pub fn take_erred(&mut self, alloc: Global) -> Vec<&'a CtlDesc> {
         mem::replace(&mut self.erred, Vec::new(alloc))
     }
@@ -243,15 +243,6 @@ fn chain(chained: &mut Vec<bool>, claims: &[Link]) {
             *own = true;
         }
     }
-}
-
-/// So many times the same.
-fn same<T: Copy>(alloc: Global, count: usize, item: T) -> Result<Vec<T>, Memory> {
-    let mut items = Vec::new(alloc);
-    for _item in 0..count {
-        items.push(item)?;
-    }
-    Ok(items)
 }
 
 /// The described lifecycle state of each component.

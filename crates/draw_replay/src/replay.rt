@@ -10,43 +10,15 @@ use crate::groups::{groups_of, members_of};
 use crate::incidents::{Incident, push_incidents};
 use crate::limiters::{LimiterCourse, blank_limiters, stop_limiter};
 use crate::links::{Linked, component_place, controller_place};
-use crate::outcomes::{event_of, is_left_out, stays};
+use crate::outcomes::{Answered, Became, event_of, is_left_out, stays};
 use crate::present::{Asked, Present};
 use crate::rows::{ColumnState, Event, Row, blank_rows, mark_row};
-use cm_document::{Call, CtlDesc, Description, GroupDesc, Pick, Script, SwitchRequest};
+use cm_document::{Call, Pick, Script, SwitchRequest};
 use cm_model::{Decision, Dropped, Entry, Outcome, Reply, Why};
 use cm_storage::{CycleRecord, Done, FailedPart, RanRef};
-use fixed_num::Memory;
+use fixed_num::{Memory, StoredValue};
 use iface_names::Name;
 use std::alloc::Global;
-
-/// What became of a call that asked for something.
-#[derive(Clone, Copy)]
-pub enum Became<'a> {
-    /// It was a request, and a begin or the close decided it.
-    Decided(&'a Outcome),
-    /// It did nothing, for this reason. A request got no ticket.
-    Not(Why),
-}
-
-/// A request that was decided, fallbacks that were asked for, or a call that did nothing.
-#[derive(Drop)]
-pub struct Answered<'a> {
-    /// The cycle at whose begin it was decided, or before whose end the call came; the number of cycles where all had
-    /// ended.
-    pub cycle: u64,
-    /// The ticket of a request that got one.
-    pub ticket: Option<u32>,
-    /// The name of the session that asked, and what it asked, where that is known.
-    pub asked: Option<Asked<'a>>,
-    /// The described groups that it named, each once.
-    pub groups: Vec<&'a GroupDesc>,
-    /// The controllers whose fallbacks were asked for because their updates failed, in the order of these; of a
-    /// request, none.
-    pub failed: Vec<&'a CtlDesc>,
-    /// What became of it.
-    pub became: Became<'a>,
-}
 
 /// How often things happened in a run.
 #[derive(Clone, Copy)]
@@ -190,7 +162,8 @@ impl<'a> Replay<'a> {
             }
             None => {
                 self.counts.turned_away = self.counts.turned_away.saturating_add(1);
-                self.requests.mark(column, Event::Refused, cycle, number);
+                self.requests
+                    .mark(column, Event::Refused, cycle, Some(number));
             }
         }
         Ok(())
@@ -218,7 +191,7 @@ impl<'a> Replay<'a> {
             self.incidents.push(Incident::Answered(number))?;
         }
         self.requests
-            .mark(column, event, self.present.ended, number);
+            .mark(column, event, self.present.ended, Some(number));
         Ok(())
     }
 
@@ -281,7 +254,7 @@ impl<'a> Replay<'a> {
         } else if let Some(place) = component_place(description, name) {
             let cycle = self.present.ended;
             if let Some(row) = self.components.get_mut(place) {
-                row.mark(column, Event::Refused, cycle, number);
+                row.mark(column, Event::Refused, cycle, Some(number));
             }
         }
     }
@@ -292,7 +265,7 @@ impl<'a> Replay<'a> {
         let cycle = self.present.ended;
         if let Some(place) = controller_place(controllers, name) {
             if let Some(row) = self.controllers.get_mut(place) {
-                row.mark(column, Event::Refused, cycle, number);
+                row.mark(column, Event::Refused, cycle, Some(number));
             }
         }
     }
@@ -319,18 +292,23 @@ impl<'a> Replay<'a> {
     /// Those that leave are inactive, and those that come are active. What a controller gave that leaves or restarts is
     /// gone.
     fn switch(&mut self, request: &SwitchRequest, dropped: &[Dropped]) {
-        let description = self.present.description;
         for pick in request.off.as_slice() {
-            match pick {
-                Pick::One(name) => self.stop_unless_dropped(name, dropped),
-                Pick::Group(name) => self.stop_all(members_of(description, name), dropped),
-            }
+            self.stop_picked(pick, dropped);
         }
-        for pick in request.on.as_slice() {
-            match pick {
-                Pick::One(name) => self.start_unless_dropped(name, dropped),
-                Pick::Group(name) => self.start_all(members_of(description, name), dropped),
-            }
+        self.start_each(request.on.as_slice(), dropped);
+    }
+
+    fn start_each(&mut self, picks: &[Pick], dropped: &[Dropped]) {
+        for pick in picks {
+            self.start_picked(pick, dropped);
+        }
+    }
+
+    fn start_picked(&mut self, pick: &Pick, dropped: &[Dropped]) {
+        let description = self.present.description;
+        match pick {
+            Pick::One(name) => self.start_unless_dropped(name, dropped),
+            Pick::Group(name) => self.start_all(members_of(description, name), dropped),
         }
     }
 
@@ -343,6 +321,14 @@ impl<'a> Replay<'a> {
     fn start_unless_dropped(&mut self, name: &Name, dropped: &[Dropped]) {
         if !is_left_out(name, dropped) {
             self.present.start(name);
+        }
+    }
+
+    fn stop_picked(&mut self, pick: &Pick, dropped: &[Dropped]) {
+        let description = self.present.description;
+        match pick {
+            Pick::One(name) => self.stop_unless_dropped(name, dropped),
+            Pick::Group(name) => self.stop_all(members_of(description, name), dropped),
         }
     }
 
@@ -362,10 +348,15 @@ impl<'a> Replay<'a> {
     fn stop(&mut self, name: &Name) {
         let controllers = self.present.description.controllers.as_slice();
         if let Some(place) = controller_place(controllers, name) {
-            self.present.stop(place);
-            forget(&mut self.courses, place);
-            stop_limiter(&mut self.limiters, place);
+            self.stop_at(place);
         }
+    }
+
+    /// The controller at this place becomes inactive, and what it gave out is gone.
+    fn stop_at(&mut self, place: usize) {
+        self.present.stop(place);
+        forget(&mut self.courses, place);
+        stop_limiter(&mut self.limiters, place);
     }
 
     // ---- Cycles
@@ -376,9 +367,7 @@ impl<'a> Replay<'a> {
         let column = self.columns.of_cycle(cycle);
         self.read_failures(record.failed(), column, cycle);
         drop(self.present.take_erred(self.alloc));
-        for ran in record.ran() {
-            self.read_update(&ran, column, cycle)?;
-        }
+        self.read_updates(record, column)?;
         for (course, body) in self.courses.iter_mut().zip(record.bodies()) {
             course.reach(column, body.x.micro());
         }
@@ -407,7 +396,13 @@ impl<'a> Replay<'a> {
         }
     }
 
-    /// What an update gave stands at the joints whose positions it commands.
+    fn read_updates(&mut self, record: &'a CycleRecord, column: usize) -> Result<(), Memory> {
+        for ran in record.ran() {
+            self.read_update(&ran, column, record.cycle())?;
+        }
+        Ok(())
+    }
+
     fn read_update(&mut self, ran: &RanRef<'_>, column: usize, cycle: u64) -> Result<(), Memory> {
         let Some(place) = self.present.place_of(ran.serial) else {
             return Ok(());
@@ -423,20 +418,25 @@ impl<'a> Replay<'a> {
             );
             return self.present.note_erred(place);
         }
-        let all = self.present.links;
-        let Some(links) = all.get(place) else {
-            return Ok(());
-        };
         let chained = self.present.is_chained(place);
         for limiter in &mut self.limiters {
             limiter.read(place, chained, column, ran.outs);
         }
-        for (claim, value) in links.claims.iter().zip(ran.outs) {
+        self.take_outs(place, ran.outs);
+        Ok(())
+    }
+
+    /// What an update gave stands at the joints whose positions it commands.
+    fn take_outs(&mut self, place: usize, outs: &[StoredValue]) {
+        let all = self.present.links;
+        let Some(links) = all.get(place) else {
+            return;
+        };
+        for (claim, value) in links.claims.iter().zip(outs) {
             if let Some(course) = self.courses.get_mut(claim.joint) {
                 course.take(place, claim, value.get());
             }
         }
-        Ok(())
     }
 
     /// What each controller and component was in this column.
@@ -452,9 +452,7 @@ impl<'a> Replay<'a> {
                 if let Some(row) = self.controllers.get_mut(place) {
                     row.stop(column, cycle);
                 }
-                self.present.stop(place);
-                forget(&mut self.courses, place);
-                stop_limiter(&mut self.limiters, place);
+                self.stop_at(place);
             }
         }
         if !stops.is_empty() {

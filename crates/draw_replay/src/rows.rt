@@ -78,8 +78,8 @@ pub struct RowCell {
     pub event: Event,
     /// The first cycle in which that happened.
     pub cycle: u64,
-    /// The call by which it happened, among all that were answered, where one did.
-    pub answered: usize,
+    /// The call by which it happened, among all that were answered, if it was one.
+    pub answered: Option<usize>,
     /// How many things happened there, stops apart.
     pub count: u64,
     /// The first cycle at whose end it was stopped, where it was.
@@ -91,7 +91,7 @@ const BLANK: RowCell = RowCell {
     shown: ColumnState::Nothing,
     event: Event::Nothing,
     cycle: 0,
-    answered: 0,
+    answered: None,
     count: 0,
     stopped: None,
 };
@@ -105,11 +105,9 @@ pub struct Row {
 impl Row {
     /// A row of so many columns, in which nothing stands yet.
     pub fn blank(alloc: Global, columns: usize) -> Result<Row, Memory> {
-        let mut cells = Vec::new(alloc);
-        for _column in 0..columns {
-            cells.push(BLANK)?;
-        }
-        Ok(Row { cells })
+        Ok(Row {
+            cells: vec![in alloc; BLANK; columns]?,
+        })
     }
 
     /// The columns, from the left.
@@ -126,8 +124,8 @@ impl Row {
         }
     }
 
-    /// This happened in a cycle of the column, by a call where one did it.
-    pub fn mark(&mut self, column: usize, event: Event, cycle: u64, answered: usize) {
+    /// This happened in a cycle of the column, by this call if it was one.
+    pub fn mark(&mut self, column: usize, event: Event, cycle: u64, answered: Option<usize>) {
         if let Some(cell) = self.cells.get_mut(column) {
             cell.count = cell.count.saturating_add(1);
             if event as u8 > cell.event as u8 {
@@ -137,9 +135,7 @@ impl Row {
             }
         }
     }
-}
 
-impl Row {
     /// It was stopped at the end of a cycle of the column.
     pub fn stop(&mut self, column: usize, cycle: u64) {
         if let Some(cell) = self.cells.get_mut(column) {
@@ -162,6 +158,6 @@ pub fn blank_rows(alloc: Global, rows: usize, columns: usize) -> Result<Vec<Row>
 /// Marks the row at a place, where there is one.
 pub fn mark_row(rows: &mut Vec<Row>, place: usize, column: usize, event: Event, cycle: u64) {
     if let Some(row) = rows.get_mut(place) {
-        row.mark(column, event, cycle, 0);
+        row.mark(column, event, cycle, None);
     }
 }
