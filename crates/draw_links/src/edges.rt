@@ -2,7 +2,7 @@
 
 use crate::boxes::reference_at;
 use crate::levels::Below;
-use crate::ports::{Group, Ports};
+use crate::ports::{PlacedComponent, Ports};
 use cm_document::{CtlDesc, Description, Exports};
 use draw_replay::{ControllerLinks, Link, Linked};
 use draw_svg::{Area, PagePoint, Px, Svg};
@@ -16,13 +16,25 @@ const AROUND: u64 = 14;
 #[derive(Clone, Copy)]
 enum Edge {
     /// A controller claims a reference of another.
-    Leads,
+    Leads {
+        /// The place of the controller that is led.
+        follower: usize,
+    },
     /// It claims a command interface.
-    Claims,
+    Claims {
+        /// The place of the interface among the ports.
+        port: usize,
+    },
     /// It reads a state interface.
-    Reads,
+    Reads {
+        /// The place of the interface among the ports.
+        port: usize,
+    },
     /// It reads all state interfaces of a component.
-    ReadsAll,
+    ReadsAll {
+        /// The place of the component.
+        component: usize,
+    },
 }
 
 /// A line, from the right of a box to where it leads.
@@ -30,15 +42,11 @@ enum Edge {
 struct Ended {
     edge: Edge,
     to: PagePoint,
-    /// The place of the interface among the ports, or of the component.
-    place: usize,
-    /// The place of the controller that is led.
-    follower: usize,
 }
 
 /// What is drawn, with where it stands.
 #[derive(Clone, Copy)]
-pub struct PlacedBox<'a> {
+pub struct PlacedLinks<'a> {
     /// The description, its joints and links.
     pub linked: Linked<'a>,
     /// How far down what each controller reads passes below the boxes, where it does, by place.
@@ -50,7 +58,7 @@ pub struct PlacedBox<'a> {
 }
 
 /// Draws the lines of all controllers.
-pub fn draw_edges(alloc: Global, svg: &mut Svg, placed: PlacedBox<'_>) -> Result<(), Memory> {
+pub fn draw_edges(alloc: Global, svg: &mut Svg, placed: PlacedLinks<'_>) -> Result<(), Memory> {
     for (place, own) in placed.linked.links.iter().enumerate() {
         let ended = ends(alloc, placed, own)?;
         draw_ended(alloc, svg, placed, place, ended.as_slice())?;
@@ -62,20 +70,20 @@ pub fn draw_edges(alloc: Global, svg: &mut Svg, placed: PlacedBox<'_>) -> Result
 fn draw_ended(
     alloc: Global,
     svg: &mut Svg,
-    placed: PlacedBox<'_>,
+    placed: PlacedLinks<'_>,
     place: usize,
     ended: &[Ended],
 ) -> Result<(), Memory> {
     let parts = ended.len().saturating_add(1);
-    for (number, edge) in ended.iter().enumerate() {
+    for (number, one) in ended.iter().enumerate() {
         if let Some(from) = begin_of(placed.boxes, place, number.saturating_add(1), parts) {
-            let title = edge_title(alloc, placed, place, *edge)?;
+            let title = edge_title(alloc, placed, place, one.edge)?;
             draw_edge(
                 alloc,
                 svg,
                 from,
                 placed.below.of_place(place),
-                *edge,
+                *one,
                 title.as_str(),
             )?;
         }
@@ -93,7 +101,11 @@ fn begin_of(boxes: &[Area], place: usize, part: usize, parts: usize) -> Option<P
 }
 
 /// The ends of a controller's lines: those to references first, then from the uppermost interface down.
-fn ends(alloc: Global, placed: PlacedBox<'_>, own: &ControllerLinks) -> Result<Vec<Ended>, Memory> {
+fn ends(
+    alloc: Global,
+    placed: PlacedLinks<'_>,
+    own: &ControllerLinks,
+) -> Result<Vec<Ended>, Memory> {
     let mut ended = Vec::new(alloc);
     push_followers(
         &mut ended,
@@ -101,8 +113,8 @@ fn ends(alloc: Global, placed: PlacedBox<'_>, own: &ControllerLinks) -> Result<V
         placed.boxes,
         own.claims.as_slice(),
     )?;
-    for (component, group) in placed.ports.components().iter().enumerate() {
-        push_component(&mut ended, placed, component, group, own)?;
+    for (place, component) in placed.ports.components().iter().enumerate() {
+        push_component(&mut ended, placed, place, component, own)?;
     }
     Ok(ended)
 }
@@ -110,16 +122,19 @@ fn ends(alloc: Global, placed: PlacedBox<'_>, own: &ControllerLinks) -> Result<V
 /// The lines to a component, or to its interfaces one by one.
 fn push_component(
     ended: &mut Vec<Ended>,
-    placed: PlacedBox<'_>,
-    component: usize,
-    group: &Group,
+    placed: PlacedLinks<'_>,
+    place: usize,
+    component: &PlacedComponent,
     own: &ControllerLinks,
 ) -> Result<(), Memory> {
-    let reads_all = group.reads_all(own.reads.as_slice(), placed.linked.joints, component);
+    let reads_all = component.reads_all(own.reads.as_slice(), placed.linked.joints, place);
     if reads_all {
-        ended.push(end_at(Edge::ReadsAll, group.at, component))?;
+        ended.push(Ended {
+            edge: Edge::ReadsAll { component: place },
+            to: component.at,
+        })?;
     }
-    push_ports(ended, placed.ports, component, own, reads_all)
+    push_ports(ended, placed.ports, place, own, reads_all)
 }
 
 fn push_followers(
@@ -134,10 +149,8 @@ fn push_followers(
         };
         if let Some(to) = followed_at(linked, boxes, follower, claim) {
             ended.push(Ended {
-                edge: Edge::Leads,
+                edge: Edge::Leads { follower },
                 to,
-                place: 0,
-                follower,
             })?;
         }
     }
@@ -187,22 +200,19 @@ fn push_ports(
             .iter()
             .any(|it| it.follower.is_none() && port.is_of(it))
         {
-            ended.push(end_at(Edge::Claims, port.command_at(), place))?;
+            ended.push(Ended {
+                edge: Edge::Claims { port: place },
+                to: port.command_at(),
+            })?;
         }
         if !reads_all && own.reads.iter().any(|it| port.is_of(it)) {
-            ended.push(end_at(Edge::Reads, port.state_at(), place))?;
+            ended.push(Ended {
+                edge: Edge::Reads { port: place },
+                to: port.state_at(),
+            })?;
         }
     }
     Ok(())
-}
-
-fn end_at(edge: Edge, to: PagePoint, place: usize) -> Ended {
-    Ended {
-        edge,
-        to,
-        place,
-        follower: 0,
-    }
 }
 
 fn draw_edge(
@@ -214,12 +224,14 @@ fn draw_edge(
     title: &str,
 ) -> Result<(), Memory> {
     let (class, tip_class, tip_at, tip) = match ended.edge {
-        Edge::Leads => ("leads", "leads-tip", ended.to, "m-4 0l-9 -4v8z"),
-        Edge::Claims => ("claims", "claims-tip", ended.to, "m-4 0l-9 -4v8z"),
-        Edge::Reads | Edge::ReadsAll => ("reads", "reads-tip", from, "l9 -4v8z"),
+        Edge::Leads { .. } => ("leads", "leads-tip", ended.to, "m-4 0l-9 -4v8z"),
+        Edge::Claims { .. } => ("claims", "claims-tip", ended.to, "m-4 0l-9 -4v8z"),
+        Edge::Reads { .. } | Edge::ReadsAll { .. } => ("reads", "reads-tip", from, "l9 -4v8z"),
     };
     let steps = match (below, ended.edge) {
-        (Some(below), Edge::Reads | Edge::ReadsAll) => under(alloc, from, below, ended.to)?,
+        (Some(below), Edge::Reads { .. } | Edge::ReadsAll { .. }) => {
+            under(alloc, from, below, ended.to)?
+        }
         _ => across(alloc, from, ended.to)?,
     };
     svg.path(class, steps.as_str(), title)?;
@@ -246,30 +258,30 @@ fn under(alloc: Global, from: PagePoint, low: Px, to: PagePoint) -> Result<Strin
 
 fn edge_title(
     alloc: Global,
-    placed: PlacedBox<'_>,
+    placed: PlacedLinks<'_>,
     place: usize,
-    ended: Ended,
+    edge: Edge,
 ) -> Result<String, Memory> {
-    let PlacedBox { linked, ports, .. } = placed;
+    let PlacedLinks { linked, ports, .. } = placed;
     let controllers = linked.description.controllers.as_slice();
     let who = name_at(controllers, place);
-    let text = match ended.edge {
-        Edge::Leads => {
-            let follower = name_at(controllers, ended.follower);
+    let text = match edge {
+        Edge::Leads { follower } => {
+            let follower = name_at(controllers, follower);
             format!(in alloc;
                 "{who} claims a reference of {follower}: it leads, and {follower} follows"
             )?
         }
-        Edge::ReadsAll => {
-            let component = component_name(linked.description, ended.place);
+        Edge::ReadsAll { component } => {
+            let component = component_name(linked.description, component);
             format!(in alloc; "{who} reads all states of {component}")?
         }
-        Edge::Claims => {
-            let port = ports.text(alloc, ended.place, linked.joints)?;
+        Edge::Claims { port } => {
+            let port = ports.text(alloc, port, linked.joints)?;
             format!(in alloc; "{who} claims {port}")?
         }
-        Edge::Reads => {
-            let port = ports.text(alloc, ended.place, linked.joints)?;
+        Edge::Reads { port } => {
+            let port = ports.text(alloc, port, linked.joints)?;
             format!(in alloc; "{who} reads {port}")?
         }
     };

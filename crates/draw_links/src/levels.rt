@@ -7,10 +7,7 @@ use std::alloc::Global;
 
 /// How long the chains are that lead on from each controller, by place: 0 of one that leads nobody.
 pub fn heights(alloc: Global, links: &[ControllerLinks]) -> Result<Vec<usize>, Memory> {
-    let mut heights = Vec::new(alloc);
-    for _controller in links {
-        heights.push(0usize)?;
-    }
+    let mut heights = vec![in alloc; 0usize; links.len()]?;
     // A chain has no more controllers than there are.
     for _length in links {
         raise(&mut heights, links);

@@ -2,7 +2,7 @@
 //! interfaces of the hardware at the right.
 
 use crate::boxes::{boxes_of, draw_boxes};
-use crate::edges::{PlacedBox, draw_edges};
+use crate::edges::{PlacedLinks, draw_edges};
 use crate::levels::{Below, heights, levels};
 use crate::ports::Ports;
 use draw_replay::Linked;
@@ -39,7 +39,7 @@ fn draw_placed(
     ports: &Ports,
 ) -> Result<Px, Memory> {
     let below = Below::of(alloc, heights, linked.links, bottom(boxes))?;
-    let placed = PlacedBox {
+    let placed = PlacedLinks {
         linked,
         below: &below,
         boxes,

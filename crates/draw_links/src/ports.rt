@@ -59,14 +59,14 @@ impl JointPort {
 
 /// A component of the picture.
 #[derive(Clone, Copy)]
-pub struct Group {
+pub struct PlacedComponent {
     /// Where those read that read all of it.
     pub at: PagePoint,
     states: usize,
     height: Px,
 }
 
-impl Group {
+impl PlacedComponent {
     /// Whether these are all its states, and so many that they are drawn as one.
     pub fn reads_all(
         &self,
@@ -88,7 +88,7 @@ impl Group {
 #[derive(Drop)]
 pub struct Ports {
     ports: Vec<JointPort>,
-    groups: Vec<Group>,
+    components: Vec<PlacedComponent>,
     left: Px,
     width: Px,
     bottom: Px,
@@ -107,7 +107,7 @@ impl Ports {
         let last = Px::of(PAGE_WIDTH - MARGIN).minus(width);
         let mut ports = Ports {
             ports: Vec::new(alloc),
-            groups: Vec::new(alloc),
+            components: Vec::new(alloc),
             left: last.least(Px::of(columns.saturating_add(MARGIN))),
             width,
             bottom: top,
@@ -127,7 +127,7 @@ impl Ports {
             x: self.left,
             y: top.plus(Px::of(HEAD_HEIGHT / 2)),
         };
-        let place = self.groups.len();
+        let place = self.components.len();
         let mut states = 0usize;
         self.bottom = top.plus(Px::of(HEAD_HEIGHT));
         for (number, joint) in component.joints.as_slice().iter().enumerate() {
@@ -136,7 +136,8 @@ impl Ports {
         }
         let height = self.bottom.minus(top);
         self.bottom = self.bottom.plus(Px::of(BETWEEN_COMPONENTS));
-        self.groups.push(Group { at, states, height })?;
+        self.components
+            .push(PlacedComponent { at, states, height })?;
         Ok(())
     }
 
@@ -188,8 +189,8 @@ impl Ports {
     }
 
     /// The components, as described.
-    pub fn components(&self) -> &[Group] {
-        self.groups.as_slice()
+    pub fn components(&self) -> &[PlacedComponent] {
+        self.components.as_slice()
     }
 
     /// The left end of it all.
@@ -222,15 +223,22 @@ impl Ports {
 
     /// Draws components and interfaces.
     pub fn draw(&self, alloc: Global, svg: &mut Svg, linked: Linked<'_>) -> Result<(), Memory> {
-        for (group, component) in self
-            .groups
-            .iter()
-            .zip(linked.description.components.as_slice())
-        {
-            draw_group(alloc, svg, self.left, self.width, *group, component)?;
+        let described = linked.description.components.as_slice();
+        for (placed, component) in self.components.iter().zip(described) {
+            draw_component(alloc, svg, self.left, self.width, *placed, component)?;
         }
+        self.draw_ports(alloc, svg, linked.joints)
+    }
+
+    /// Draws the interfaces.
+    fn draw_ports(
+        &self,
+        alloc: Global,
+        svg: &mut Svg,
+        joints: &[(usize, &JointDesc)],
+    ) -> Result<(), Memory> {
         for (place, port) in self.ports.iter().enumerate() {
-            let text = self.text(alloc, place, linked.joints)?;
+            let text = self.text(alloc, place, joints)?;
             draw_port(alloc, svg, port, text.as_str())?;
         }
         Ok(())
@@ -241,19 +249,26 @@ impl Ports {
 fn longest(description: &Description) -> usize {
     let mut longest = 16usize;
     for component in description.components.as_slice() {
-        for joint in component.joints.as_slice() {
-            longest = longest.max(joint.name.as_str().len().saturating_add(9));
-        }
+        longest = longest.max(longest_of(component.joints.as_slice()));
     }
     longest
 }
 
-fn draw_group(
+/// The length of the longest name of an interface of these joints; 0 of none.
+fn longest_of(joints: &[JointDesc]) -> usize {
+    let mut longest = 0usize;
+    for joint in joints {
+        longest = longest.max(joint.name.as_str().len().saturating_add(9));
+    }
+    longest
+}
+
+fn draw_component(
     alloc: Global,
     svg: &mut Svg,
     left: Px,
     width: Px,
-    group: Group,
+    placed: PlacedComponent,
     component: &CompDesc,
 ) -> Result<(), Memory> {
     let name = &component.name;
@@ -261,16 +276,16 @@ fn draw_group(
     let title = format!(in alloc; "component {name}: {kind}")?;
     let frame = Area {
         x: left,
-        y: group.at.y.minus(Px::of(HEAD_HEIGHT / 2)),
+        y: placed.at.y.minus(Px::of(HEAD_HEIGHT / 2)),
         width,
-        height: group.height,
+        height: placed.height,
     };
     svg.rect("frame", frame, title.as_str())?;
     let text = format!(in alloc; "{name}, {kind}")?;
     let text = shortened(alloc, text.as_str(), frame.width.minus(Px::of(24)).room())?;
     svg.words(
         "name",
-        group.at.beside(Px::of(14), Px::of(5)),
+        placed.at.beside(Px::of(14), Px::of(5)),
         text.as_str(),
         title.as_str(),
     )
