@@ -1,5 +1,5 @@
 use Rattle.std.proofs.Common.{arith}
-use Rattle.cm_draw.proofs.draw_traced.Goals as goal
+use Rattle.cm_draw.proofs.traced.draw_traced.Goals as goal
 
 -- a document that was read keeps the rules, and its trace is no longer than it
 pub draw_trace-requires : goal.draw_trace-requires
