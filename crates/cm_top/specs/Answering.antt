@@ -21,8 +21,8 @@ use Rattle.cm_top.specs.Book.{BookFacts, Task, IsShort}
 use Rattle.cm_top.specs.Status.{Written, Wrote, RanDocument, status_of_document}
 use Rattle.cm_top.specs.Traced.{Given, traced}
 use Rattle.cm_top.specs.Wished.{wished, planned_text}
-use Rattle.cm_top.specs.declared.answer.Asked.{Asked}
-use Rattle.cm_top.specs.declared.answer.Asked.TheVariants as asked_for
+use Rattle.cm_top.specs.declared.answer.Question.{Question}
+use Rattle.cm_top.specs.declared.answer.Question.TheVariants as question
 use Rattle.cm_top.specs.declared.status.Status.{Status}
 use Rattle.cm_top.specs.declared.status.Status.TheVariants as status
 
@@ -40,9 +40,9 @@ answering_of kind.Plan = Some planning
 answering_of _ = None
 
 -- and of a job that reads a document of its own
-abbrev pub answering : Asked → Answering
-answering asked_for.Check = checking
-answering asked_for.Plan = planning
+abbrev pub answering : Question → Answering
+answering question.Check = checking
+answering question.Plan = planning
 
 -- ---- What each promises
 

@@ -17,7 +17,7 @@ use std::alloc::Global;
 
 /// What is asked of a document that does not run.
 #[derive(Clone, Copy, Debug)]
-pub enum Asked {
+pub enum Question {
     /// Whether the trace behind its script is that of a run.
     Check,
     /// Which script starts the controllers that it wants.
@@ -27,12 +27,12 @@ pub enum Asked {
 /// Answers the document of a source over these blanks: it writes the answer, or nothing.
 pub fn answer_alone<S: Source, K: Sink>(
     alloc: Global,
-    asked: Asked,
+    question: Question,
     source: &mut S,
     sink: &mut K,
     blanks: Blanks,
 ) -> Status
-    ensures answers { AnswersFrom (answering asked) blanks
+    ensures answers { AnswersFrom (answering question) blanks
         (source_facts S.left S.faults source.old) (source_facts S.left S.faults source.new)
         (sink_facts K.taken K.flushed K.faults sink.old) (sink_facts K.taken K.flushed K.faults sink.new)
         result None }
@@ -42,7 +42,7 @@ pub fn answer_alone<S: Source, K: Sink>(
     ensures untouched { ComesBeforeWriting result → sink.new ≡ sink.old }
 {
     match read_whole(alloc, source, LONGEST_DOCUMENT) {
-        Ok(bytes) => answer_bytes(alloc, asked, bytes.as_slice(), sink, &blanks),
+        Ok(bytes) => answer_bytes(alloc, question, bytes.as_slice(), sink, &blanks),
         Err(ReadFault::Failed) => Status::ReadFault,
         Err(ReadFault::TooLong) => Status::TooLong,
         Err(ReadFault::Memory) => Status::Memory,
@@ -52,21 +52,21 @@ pub fn answer_alone<S: Source, K: Sink>(
 /// Answers the document that these bytes are.
 fn answer_bytes<K: Sink>(
     alloc: Global,
-    asked: Asked,
+    question: Question,
     bytes: &[u8],
     sink: &mut K,
     blanks: &Blanks,
 ) -> Status
     requires { length bytes.now ≤ LONGEST_DOCUMENT }
-    ensures answers { AnswersBytes (answering asked) blanks.now bytes.now
+    ensures answers { AnswersBytes (answering question) blanks.now bytes.now
         (written (sink_facts K.taken K.flushed K.faults sink.old) (sink_facts K.taken K.flushed K.faults sink.new))
         result }
     ensures outside { MindsSink (sink_facts K.taken K.flushed K.faults sink.old)
         (sink_facts K.taken K.flushed K.faults sink.new) result }
     ensures untouched { ComesBeforeWriting result → sink.new ≡ sink.old }
 {
-    match asked {
-        Asked::Check => check_bytes(alloc, bytes, sink, blanks),
-        Asked::Plan => plan_bytes(alloc, bytes, sink, blanks),
+    match question {
+        Question::Check => check_bytes(alloc, bytes, sink, blanks),
+        Question::Plan => plan_bytes(alloc, bytes, sink, blanks),
     }
 }

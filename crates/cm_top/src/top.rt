@@ -12,7 +12,7 @@ ghost use Rattle.cm_top.specs.Calls.Run.{MindsFaults, MindsSink, RefusesWords, S
 ghost use Rattle.cm_top.specs.Status.{RanDocument};
 
 use crate::accepted::{run_document, run_document_by};
-use crate::answer::{Asked, answer_alone};
+use crate::answer::{Question, answer_alone};
 use crate::live::run_document_live;
 use crate::reading::read_job;
 use crate::status::Status;
@@ -107,8 +107,8 @@ pub fn run_alone<S: Source, K: Sink, C: Controller>(
     ensures spared { SparesAlone job.now result.0 source.old source.new sink.old sink.new }
 {
     match job.kind {
-        JobKind::Check => (answer_alone(alloc, Asked::Check, source, sink, stock.blanks()), None),
-        JobKind::Plan => (answer_alone(alloc, Asked::Plan, source, sink, stock.blanks()), None),
+        JobKind::Check => (answer_alone(alloc, Question::Check, source, sink, stock.blanks()), None),
+        JobKind::Plan => (answer_alone(alloc, Question::Plan, source, sink, stock.blanks()), None),
         _ => match read_job(alloc, job.make, source) {
             Ok(document) => do_job(alloc, job, document, sink, stock),
             Err(status) => (status, None),

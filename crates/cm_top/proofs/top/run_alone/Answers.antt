@@ -30,8 +30,8 @@ returns-in-Plan-clause-runs g c =
 
 pub returns-in-Plan-clause-spared : goal.returns-in-Plan-clause-spared
 returns-in-Plan-clause-spared g c =
-    answers-SparesAlone c.args.job.now c.answer_alone-in-Plan.result _ _ _ _ (c.requires.unmade (ap can_make c.in-Plan.is))
-    c.answer_alone-in-Plan.ensures.untouched
+    answers-SparesAlone c.args.job.now c.answer_alone-in-Plan.result _ _ _ _
+    (c.requires.unmade (ap can_make c.in-Plan.is)) c.answer_alone-in-Plan.ensures.untouched
 
 -- another job reads its document plainly; one that answers without a book reads it itself
 plainly : (kind : JobKind) → kind ≢ Live → kind ≢ Check → kind ≢ Plan → ReadsPlainly kind
