@@ -1,6 +1,6 @@
 //! Calls of a session, of words as a script has them.
 
-use cm_document::{Call, Life, Mail, Pick, SwitchRequest};
+use cm_document::{Call, LIVES, Life, Mail, Pick, STRICTNESSES, SwitchRequest, meaning_of};
 use fixed_num::Fx;
 use iface_names::Name;
 use pages_cases::pages::halves;
@@ -64,30 +64,31 @@ fn hardware_of(alloc: Global, rest: &str) -> Result<Call, Fail> {
     let (name, state) = halves(rest, " ")?;
     Ok(Call::Hardware {
         component: name_of(alloc, name)?,
-        target: life_of(state),
+        target: life_of(state)?,
     })
 }
 
-fn life_of(word: &str) -> Life {
-    match word {
-        "unconfigured" => Life::Unconfigured,
-        "inactive" => Life::Inactive,
-        "finalized" => Life::Finalized,
-        _ => Life::Active,
-    }
+/// The lifecycle state of a word.
+pub fn life_of(word: &str) -> Result<Life, Fail> {
+    Ok(meaning_of(&LIVES, word.as_bytes()).ok_or("an unknown state")?)
 }
 
 /// `strict` or `best`, and what is to be deactivated behind `-` and activated behind `+`: a name, or `@` and a group's.
-fn switch_of(alloc: Global, words: &str) -> Result<SwitchRequest, Fail> {
+pub fn switch_of(alloc: Global, words: &str) -> Result<SwitchRequest, Fail> {
+    let (strictness, picks) = words.split_once(" ").unwrap_or((words, ""));
     let mut request = SwitchRequest {
         on: Seq::new(alloc),
         off: Seq::new(alloc),
-        strict: words.starts_with("strict"),
+        strict: is_strict(strictness)?,
     };
-    for word in words.split_whitespace() {
+    for word in picks.split_whitespace() {
         add_word(alloc, &mut request, word)?;
     }
     Ok(request)
+}
+
+fn is_strict(word: &str) -> Result<bool, Fail> {
+    Ok(meaning_of(&STRICTNESSES, word.as_bytes()).ok_or("neither strict nor best")?)
 }
 
 fn add_word(alloc: Global, request: &mut SwitchRequest, word: &str) -> Result<(), Fail> {
@@ -95,6 +96,8 @@ fn add_word(alloc: Global, request: &mut SwitchRequest, word: &str) -> Result<()
         request.off.push(pick_of(alloc, name)?)?;
     } else if let Some(name) = word.strip_prefix('+') {
         request.on.push(pick_of(alloc, name)?)?;
+    } else {
+        return Err(Fail::new("a word without its sign"));
     }
     Ok(())
 }

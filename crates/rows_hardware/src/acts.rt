@@ -8,6 +8,7 @@ use cm_document::{Checked, Life};
 use cm_storage::Done;
 use fixed_num::{BodyState, Fx, Value};
 use hw_component::{Component, ModeFault};
+use pages_calls::calls::life_of;
 use pages_calls::described::described;
 use pages_cases::acts::{Player, hold_acts};
 use pages_cases::pages::{joined, push_parted};
@@ -133,19 +134,9 @@ impl Rig {
 
     /// `move STATE`: whether it moved, and its state then.
     fn go(&mut self, told: &mut String, rest: &str) -> Result<(), Fail> {
-        push_end(told, self.component.to_state(life_of(rest)))?;
+        push_end(told, self.component.to_state(life_of(rest)?))?;
         write!(told, " {}", self.component.life())?;
         Ok(())
-    }
-}
-
-/// The lifecycle state that a word stands for.
-pub fn life_of(word: &str) -> Life {
-    match word {
-        "unconfigured" => Life::Unconfigured,
-        "inactive" => Life::Inactive,
-        "finalized" => Life::Finalized,
-        _ => Life::Active,
     }
 }
 

@@ -2,12 +2,13 @@
 
 ghost use Rattle.std.specs.Prelude.{◌<◌, length};
 
-use crate::acts::{life_of, push_body, push_end};
+use crate::acts::{push_body, push_end};
 use crate::starts::{push_component_list, push_interface_list};
 use cm_document::{Checked, Description};
 use cm_hardware::ResourceManager;
 use cm_storage::FailedPart;
 use fixed_num::BodyState;
+use pages_calls::calls::life_of;
 use pages_calls::described::described;
 use pages_cases::acts::{Player, hold_acts};
 use pages_cases::pages::{halves, joined, push_parted};
@@ -58,8 +59,9 @@ fn moved(alloc: Global, told: &mut String, checked: &Checked, rest: &str) -> Res
     if place as usize >= checked.description().components.as_slice().len() {
         return Err(Fail::new("no such component"));
     }
+    let target = life_of(state)?;
     let mut hardware = ResourceManager::make(alloc, checked)?;
-    let end = hardware.move_component(place, life_of(state));
+    let end = hardware.move_component(place, target);
     let listed = match push_end(told, end) {
         Ok(()) => push_lists(alloc, told, checked.description(), &hardware),
         Err(fail) => Err(fail),

@@ -3,11 +3,12 @@
 ghost use Rattle.std.specs.Prelude.{IsTrue, IfOk};
 ghost use Rattle.request_plan.specs.Situations.{IsSituation};
 
-use crate::scenes::{Scene, are_below, life_of, request_of};
+use crate::scenes::{Scene, are_below};
 use chain_order::PlaceSet;
-use cm_document::{Checked, Pick};
+use cm_document::Checked;
 use cm_model::{Decision, Reply, Request};
 use iface_names::Name;
+use pages_calls::calls::{life_of, name_of, switch_of};
 use pages_calls::robots::ARM_AND_LEG;
 use pages_cases::acts::{Player, hold_acts};
 use pages_cases::pages::push_parted;
@@ -72,11 +73,11 @@ best -watch +watch -fwd => done -fwd -watch +watch =watch / watch
 fwd inactive
 other inactive
 watch inactive
-fallback +nosuch +fwd +other +watch +fwd => done dropped nosuch unknown, fwd twice, other conflict j1/position fwd \
+fallback nosuch fwd other watch fwd => done dropped nosuch unknown, fwd twice, other conflict j1/position fwd \
 +fwd +watch =fwd =watch / fwd watch
 strict -fwd +other => done -fwd +other =other =watch / other watch
 strict +fwd => refused fwd conflict j1/position other / other watch
-fallback +other => done +other =other / other
+fallback other => done +other =other / other
 
 fwd inactive
 told 0 => not yet
@@ -97,13 +98,11 @@ fn requests_are_planned_one_after_the_other(rt: HostRuntime) -> Result<(), Fail>
     hold_acts::<Queue>(rt.alloc(), ARM_AND_LEG, PLANS)
 }
 
-/// The controllers among these.
-fn controllers_of(alloc: Global, picks: &[Pick]) -> Result<Seq<Name>, Fail> {
+/// The names that these words are.
+fn names_of(alloc: Global, words: &str) -> Result<Seq<Name>, Fail> {
     let mut names = Seq::new(alloc);
-    for pick in picks {
-        if let Pick::One(name) = pick {
-            names.push(name.clone()?)?;
-        }
+    for word in words.split_whitespace() {
+        names.push(name_of(alloc, word)?)?;
     }
     Ok(names)
 }
@@ -131,7 +130,7 @@ impl Player for Queue {
     fn told(&mut self, alloc: Global, words: &str) -> Result<String, Fail> {
         match words.split_once(" ") {
             Some(("told", ticket)) => self.outcome_of(alloc, ticket.parse()?),
-            Some(("fallback", _)) => self.stand_in(alloc, words),
+            Some(("fallback", names)) => self.stand_in(alloc, names),
             None if words == "close" => self.close(alloc),
             _ => self.ask(alloc, words),
         }
@@ -165,11 +164,8 @@ impl Queue {
     }
 
     /// These are to stand in, and are planned before the requests.
-    fn stand_in(&mut self, alloc: Global, words: &str) -> Result<String, Fail> {
-        let request = request_of(alloc, words)?;
-        let names = controllers_of(alloc, request.on.as_slice());
-        drop(request);
-        self.fallbacks = names?;
+    fn stand_in(&mut self, alloc: Global, names: &str) -> Result<String, Fail> {
+        self.fallbacks = names_of(alloc, names)?;
         let plan = self.plan(alloc)?;
         let told = self.first_told(alloc, &plan);
         drop(plan);
@@ -322,12 +318,12 @@ fn hold_decision(
 /// `hw COMPONENT STATE`, or the words of a switch.
 fn request(alloc: Global, words: &str) -> Result<Request, Fail> {
     let Some(rest) = words.strip_prefix("hw ") else {
-        return Ok(Request::Switch(request_of(alloc, words)?));
+        return Ok(Request::Switch(switch_of(alloc, words)?));
     };
     let (name, state) = rest.split_once(" ").ok_or("no state")?;
     Ok(Request::Hardware {
-        component: Name::read(alloc, name.as_bytes())?,
-        target: life_of(state),
+        component: name_of(alloc, name)?,
+        target: life_of(state)?,
     })
 }
 

@@ -9,14 +9,13 @@ use crate::groups::{CHAIN, GROUPED, GROUPS, IN_A_CHAIN};
 use crate::largest::{RISING_REQUESTS, SINKING_REQUESTS};
 use crate::requests::ONE_JOINT;
 use crate::restarts::RESTARTS;
-use cm_document::{Checked, Life, Pick, SwitchRequest};
+use cm_document::{Checked, Life, SwitchRequest};
 use cm_model::{Planned, Seen};
-use iface_names::Name;
+use pages_calls::calls::{life_of, switch_of};
 use pages_calls::described::{described, place_of};
 use pages_calls::robots::{ARM_AND_LEG, RISING, SEVEN, SINKING};
 use pages_cases::acts::{Player, hold_acts};
 use pages_cases::pages::halves;
-use sequence::Seq;
 use std::alloc::Global;
 use std::test::Fail;
 use switch_plan::{Relations, View, plan, plan_with};
@@ -56,7 +55,7 @@ impl Player for Scene {
 
     /// What is told of a request: the outcome, and the names of those to deactivate and to activate.
     fn told(&mut self, alloc: Global, words: &str) -> Result<String, Fail> {
-        let request = request_of(alloc, words)?;
+        let request = switch_of(alloc, words)?;
         let told = self.answered(alloc, &request);
         drop(request);
         told
@@ -83,7 +82,7 @@ impl Scene {
     /// inactive one that is not ready; or `PLACE STATE` of a component.
     fn add(&mut self, line: &str) -> Result<(), Fail> {
         let (name, word) = halves(line, " ")?;
-        let life = life_of(word);
+        let life = seen_life(word)?;
         match name.parse() {
             Ok(place) => self.set_component(place, life),
             Err(_) => self.load(name, word, life),
@@ -212,13 +211,12 @@ impl Scene {
     }
 }
 
-/// The lifecycle state that a word stands for: of one that is late it is inactive, and of any other it is active.
-pub(crate) fn life_of(word: &str) -> Life {
+/// The lifecycle state of a line's word: one that is late is inactive, and one that is chained is active.
+fn seen_life(word: &str) -> Result<Life, Fail> {
     match word {
-        "unconfigured" => Life::Unconfigured,
-        "inactive" | "late" => Life::Inactive,
-        "finalized" => Life::Finalized,
-        _ => Life::Active,
+        "late" => Ok(Life::Inactive),
+        "chained" => Ok(Life::Active),
+        _ => life_of(word),
     }
 }
 
@@ -227,35 +225,4 @@ pub(crate) fn are_below(loaded: &[Seen], count: usize) -> bool
     ensures { IsTrue result → All (λ l. l.place < count) loaded.now }
 {
     loaded.iter().all(|seen| (seen.place as usize) < count)
-}
-
-/// `strict` or `best`, and what is to be deactivated behind `-` and activated behind `+`: a name, or `@` and a group's.
-pub(crate) fn request_of(alloc: Global, words: &str) -> Result<SwitchRequest, Fail> {
-    let mut request = SwitchRequest {
-        on: Seq::new(alloc),
-        off: Seq::new(alloc),
-        strict: false,
-    };
-    for word in words.split_whitespace() {
-        add_word(alloc, &mut request, word)?;
-    }
-    Ok(request)
-}
-
-fn add_word(alloc: Global, request: &mut SwitchRequest, word: &str) -> Result<(), Fail> {
-    if let Some(name) = word.strip_prefix('-') {
-        request.off.push(pick_of(alloc, name)?)?;
-    } else if let Some(name) = word.strip_prefix('+') {
-        request.on.push(pick_of(alloc, name)?)?;
-    } else {
-        request.strict = word == "strict";
-    }
-    Ok(())
-}
-
-fn pick_of(alloc: Global, word: &str) -> Result<Pick, Fail> {
-    match word.strip_prefix('@') {
-        Some(name) => Ok(Pick::Group(Name::read(alloc, name.as_bytes())?)),
-        None => Ok(Pick::One(Name::read(alloc, word.as_bytes())?)),
-    }
 }
