@@ -1,5 +1,8 @@
 //! Calls of a session, of words as a script has them.
 
+ghost use Rattle.std.specs.Prelude.{IfOk};
+ghost use Rattle.cm_model.specs.Ports.{CanBeCalled};
+
 use cm_document::{Call, LIVES, Life, Mail, Pick, STRICTNESSES, SwitchRequest, meaning_of};
 use fixed_num::Fx;
 use iface_names::Name;
@@ -8,8 +11,10 @@ use sequence::Seq;
 use std::alloc::Global;
 use std::test::Fail;
 
-/// The call of a verb and the words behind it.
-pub fn call_of(alloc: Global, verb: &str, rest: &str) -> Result<Call, Fail> {
+/// The call of a verb and the words behind it: one that a desk answers at once.
+pub fn call_of(alloc: Global, verb: &str, rest: &str) -> Result<Call, Fail>
+    ensures { IfOk result CanBeCalled }
+{
     match verb {
         "load" => Ok(Call::Load(name_of(alloc, rest)?)),
         "configure" => Ok(Call::Configure(name_of(alloc, rest)?)),
@@ -30,7 +35,9 @@ pub fn name_of(alloc: Global, word: &str) -> Result<Name, Fail> {
 }
 
 /// `NAME HZ`.
-fn rate_of(alloc: Global, rest: &str) -> Result<Call, Fail> {
+fn rate_of(alloc: Global, rest: &str) -> Result<Call, Fail>
+    ensures { IfOk result CanBeCalled }
+{
     let (name, hz) = halves(rest, " ")?;
     let hz = hz.parse()?;
     Ok(Call::Rate {
@@ -40,7 +47,9 @@ fn rate_of(alloc: Global, rest: &str) -> Result<Call, Fail> {
 }
 
 /// `controllers`, `interfaces` or `components`.
-fn list_of(word: &str) -> Result<Call, Fail> {
+fn list_of(word: &str) -> Result<Call, Fail>
+    ensures { IfOk result CanBeCalled }
+{
     match word {
         "controllers" => Ok(Call::ListControllers),
         "interfaces" => Ok(Call::ListInterfaces),
@@ -50,7 +59,9 @@ fn list_of(word: &str) -> Result<Call, Fail> {
 }
 
 /// `NAME VALUE`.
-fn send_of(alloc: Global, rest: &str) -> Result<Call, Fail> {
+fn send_of(alloc: Global, rest: &str) -> Result<Call, Fail>
+    ensures { IfOk result CanBeCalled }
+{
     let (name, value) = halves(rest, " ")?;
     let values = vec![in alloc; Fx::read(value.as_bytes())?]?;
     Ok(Call::Send {
@@ -60,7 +71,9 @@ fn send_of(alloc: Global, rest: &str) -> Result<Call, Fail> {
 }
 
 /// `COMPONENT STATE`.
-fn hardware_of(alloc: Global, rest: &str) -> Result<Call, Fail> {
+fn hardware_of(alloc: Global, rest: &str) -> Result<Call, Fail>
+    ensures { IfOk result CanBeCalled }
+{
     let (name, state) = halves(rest, " ")?;
     Ok(Call::Hardware {
         component: name_of(alloc, name)?,

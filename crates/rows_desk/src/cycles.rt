@@ -5,7 +5,7 @@ ghost use Rattle.std.specs.List.{All};
 ghost use Rattle.cm_desk.specs.Calls.Answers.{MayCall};
 ghost use Rattle.cm_model.specs.Controllers.{IsBlank};
 
-use crate::lines::{CANNOT, is_call, push_history, push_last};
+use crate::lines::{CANNOT, push_history, push_last};
 use crate::looping::{DeskLoop, across, make_cycle};
 use cm_desk::Desk;
 use cm_document::{Call, Checked};
@@ -143,10 +143,6 @@ fn ask<C: Controller>(
     }
     let (verb, rest) = halves(call, " ")?;
     let call = call_of(alloc, verb, rest)?;
-    if !is_call(&call) {
-        drop(call);
-        return Err(Fail::new("no call of a session"));
-    }
     call_desk(looping, who, call, told)
 }
 

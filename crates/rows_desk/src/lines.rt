@@ -1,13 +1,12 @@
 //! Pages of calls: each case has the calls of several sessions and of the loop on a desk at boot, a line each.
 
-ghost use Rattle.std.specs.Prelude.{◌≡◌, ◌<◌, ◌^◌, length, true};
+ghost use Rattle.std.specs.Prelude.{◌<◌, ◌^◌, length};
 ghost use Rattle.std.specs.List.{All};
 ghost use Rattle.cm_model.specs.Controllers.{IsBlank};
-ghost use Rattle.cm_desk.specs.Desk.{CanBeCalled};
 
 use crate::marked::{Marked, with_marks};
 use crate::tables::Table;
-use cm_document::{Call, Checked};
+use cm_document::Checked;
 use cm_model::{Entry, Outcome, Reply};
 use cm_storage::CycleRecord;
 use ctl_rack::Stock;
@@ -256,7 +255,7 @@ fn ask<C: Controller>(
     match verb {
         "told" => ask_for(alloc, table, who, rest.parse()?, told),
         "await" => wait_for(alloc, table, who, rest.parse()?, told),
-        _ => call_desk(alloc, table, who, call_of(alloc, verb, rest)?, told),
+        _ => call_desk(alloc, table, who, verb, rest, told),
     }
 }
 
@@ -299,15 +298,13 @@ fn call_desk<C: Controller>(
     alloc: Global,
     table: &mut Table<Marked<C>>,
     who: u32,
-    call: Call,
+    verb: &str,
+    rest: &str,
     told: &mut String,
 ) -> Result<Heard, Fail>
     requires session { who < table.old.opening.sessions }
 {
-    if !is_call(&call) {
-        drop(call);
-        return Err(Fail::new("no call of a session"));
-    }
+    let call = call_of(alloc, verb, rest)?;
     let Ok((reply, given)) = table.call(alloc, who, call) else {
         return Ok(Heard::Refused);
     };
@@ -315,16 +312,6 @@ fn call_desk<C: Controller>(
     drop(reply);
     pushed?;
     Ok(Heard::Answered)
-}
-
-/// Whether a desk answers this call for a session.
-pub fn is_call(call: &Call) -> bool
-    ensures { result ≡ true → CanBeCalled call.now }
-{
-    match call {
-        Call::Told(_) | Call::Await(_) | Call::Begin(_) | Call::End(_) | Call::Close => false,
-        _ => true,
-    }
 }
 
 fn push_answer<C: Controller>(

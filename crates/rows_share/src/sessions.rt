@@ -1,10 +1,7 @@
 //! A session at a shared desk: what its pass is told, call by call. A call that wants memory is made again.
 
-ghost use Rattle.std.specs.Prelude.{◌≡◌, true, IfOk};
-ghost use Rattle.cm_desk.specs.Desk.{CanBeCalled};
 ghost use Rattle.shared_desk.specs.Passes.{IsSessionPass};
 
-use cm_document::Call;
 use cm_model::{Outcome, Reply};
 use ctl_trait::Controller;
 use pages_calls::calls::call_of;
@@ -66,7 +63,7 @@ fn call_desk<R: Wait, C: Controller>(
     ensures { IsSessionPass desk.now.lock desk.now.at_first.value pass.new }
 {
     for _ in 0..MOST_TRIES {
-        let call = session_call(alloc, verb, rest)?;
+        let call = call_of(alloc, verb, rest)?;
         if let Ok((reply, given)) = desk.call(rt, pass, call) {
             let has_box = given.is_some();
             drop(given);
@@ -74,28 +71,6 @@ fn call_desk<R: Wait, C: Controller>(
         }
     }
     Err(Fail::new(TOO_OFTEN))
-}
-
-/// A call of a session, of words as a script has them.
-fn session_call(alloc: Global, verb: &str, rest: &str) -> Result<Call, Fail>
-    ensures { IfOk result CanBeCalled }
-{
-    let call = call_of(alloc, verb, rest)?;
-    if !is_call(&call) {
-        drop(call);
-        return Err(Fail::new("no call of a session"));
-    }
-    Ok(call)
-}
-
-/// Whether a desk answers this call for a session.
-fn is_call(call: &Call) -> bool
-    ensures { result ≡ true → CanBeCalled call.now }
-{
-    match call {
-        Call::Told(_) | Call::Await(_) | Call::Begin(_) | Call::End(_) | Call::Close => false,
-        _ => true,
-    }
 }
 
 fn push_answer(told: &mut String, reply: &Reply, has_box: bool) -> Result<(), Fail> {
