@@ -1,10 +1,23 @@
 //! Replies, as a line of a page tells them.
 
-use cm_model::{CompLine, CtlLine, Decision, IfaceLine, Reply};
+use cm_model::{CompLine, CtlLine, Decision, Entry, IfaceLine, Reply};
 use cm_storage::{CycleRecord, RanRef};
 use fixed_num::Value;
 use pages_cases::pages::push_parted;
+use std::alloc::Global;
 use std::test::Fail;
+
+/// What stands between two entries of a history.
+const BETWEEN: &str = " / ";
+
+/// Appends an entry of a history: who called, the call and the reply.
+pub fn push_entry(alloc: Global, told: &mut String, entry: &Entry) -> Result<(), Fail> {
+    let mut reply = String::new(alloc);
+    push_reply(&mut reply, &entry.reply)?;
+    push_parted(told, BETWEEN, "")?;
+    write!(told, "{} {}: {reply}", entry.who, entry.call)?;
+    Ok(())
+}
 
 /// Appends what a reply tells.
 pub fn push_reply(told: &mut String, reply: &Reply) -> Result<(), Fail> {
@@ -96,14 +109,24 @@ fn push_none(told: &mut String) -> Result<(), Fail> {
 
 /// Appends the serial of each controller that ran with what it gave out, and of each that the end stops.
 pub fn push_record(told: &mut String, record: &CycleRecord) -> Result<(), Fail> {
+    push_runs(told, record)?;
+    push_stops(told, record)?;
+    push_none(told)
+}
+
+fn push_runs(told: &mut String, record: &CycleRecord) -> Result<(), Fail> {
     for ran in record.ran() {
         push_ran(told, &ran)?;
     }
+    Ok(())
+}
+
+fn push_stops(told: &mut String, record: &CycleRecord) -> Result<(), Fail> {
     for serial in record.stops() {
         push_parted(told, "; ", "stop")?;
         write!(told, " {serial}")?;
     }
-    push_none(told)
+    Ok(())
 }
 
 fn push_ran(told: &mut String, ran: &RanRef<'_>) -> Result<(), Fail> {

@@ -14,7 +14,7 @@ use ctl_trait::Controller;
 use fixed_num::BodyState;
 use pages_calls::calls::call_of;
 use pages_calls::described::described;
-use pages_calls::replies::{push_record, push_reply};
+use pages_calls::replies::{push_entry, push_record, push_reply};
 use pages_calls::stocks::blanks;
 use pages_cases::pages::{halves, hold_told};
 use std::alloc::Global;
@@ -26,9 +26,6 @@ pub const CANNOT: &str = "cannot";
 
 /// The most blanks of a stock here.
 const MOST_BLANKS: usize = 100;
-
-/// What stands between two entries of a history.
-const BETWEEN: &str = " / ";
 
 /// What came of a call.
 #[derive(Drop)]
@@ -205,23 +202,15 @@ fn push_made(told: &mut String, made: bool) -> Result<(), Fail> {
 
 // ---- The history
 
-/// Appends all entries: who called, the call, and the reply.
+/// Appends all entries, each end with where its joints are.
 pub fn push_history(alloc: Global, told: &mut String, history: &[Entry]) -> Result<(), Fail> {
     for entry in history {
         push_entry(alloc, told, entry)?;
+        if let Reply::Cycle(record) = &entry.reply {
+            push_bodies(told, record)?;
+        }
     }
     Ok(())
-}
-
-fn push_entry(alloc: Global, told: &mut String, entry: &Entry) -> Result<(), Fail> {
-    let mut reply = String::new(alloc);
-    push_reply(&mut reply, &entry.reply)?;
-    told.push_str(if told.is_empty() { "" } else { BETWEEN })?;
-    write!(told, "{} {}: {reply}", entry.who, entry.call)?;
-    match &entry.reply {
-        Reply::Cycle(record) => push_bodies(told, record),
-        _ => Ok(()),
-    }
 }
 
 /// Appends where each joint is, how fast, and its effort.

@@ -17,9 +17,9 @@ use ctl_rack::Stock;
 use ctl_trait::Controller;
 use fixed_num::Memory;
 use pages_calls::described::described;
-use pages_calls::replies::push_reply;
+use pages_calls::replies::push_entry;
 use pages_calls::stocks::blanks;
-use pages_cases::pages::{halves, hold_told, push_parted};
+use pages_cases::pages::{halves, hold_told};
 use shared_desk::{KeptDesk, LoopPass, Opening, Pass, SharedDesk};
 use std::alloc::Global;
 use std::sync::Wait;
@@ -37,9 +37,6 @@ const NO_PASS: &str = "a session without a pass";
 
 /// What stands before the history in which a case ends.
 const FINISH: &str = "\nfinish => ";
-
-/// What stands between two entries of a history.
-const BETWEEN: &str = " / ";
 
 /// The passes of both sessions.
 #[derive(Drop)]
@@ -271,14 +268,5 @@ fn push_history(alloc: Global, told: &mut String, history: &[Entry]) -> Result<(
     for entry in history {
         push_entry(alloc, told, entry)?;
     }
-    Ok(())
-}
-
-/// Appends who called, the call and the reply.
-fn push_entry(alloc: Global, told: &mut String, entry: &Entry) -> Result<(), Fail> {
-    let mut reply = String::new(alloc);
-    push_reply(&mut reply, &entry.reply)?;
-    push_parted(told, BETWEEN, "")?;
-    write!(told, "{} {}: {reply}", entry.who, entry.call)?;
     Ok(())
 }
