@@ -52,7 +52,7 @@ live|--workers|1";
 #[test]
 fn two_of_one_depth_are_updated_beside_one_another(rt: HostRuntime) -> Result<(), Fail> {
     for words in BY_SEVERAL.lines() {
-        hold(&rt, rt.alloc(), words, true)?;
+        hold_meeting(&rt, rt.alloc(), words)?;
     }
     Ok(())
 }
@@ -60,28 +60,40 @@ fn two_of_one_depth_are_updated_beside_one_another(rt: HostRuntime) -> Result<()
 #[test]
 fn one_worker_updates_them_one_after_the_other(rt: HostRuntime) -> Result<(), Fail> {
     for words in BY_ONE.lines() {
-        hold(&rt, rt.alloc(), words, false)?;
+        hold_no_meeting(&rt, rt.alloc(), words)?;
     }
     Ok(())
 }
 
-/// Fails unless the run goes well, and the two meet in it or not.
-fn hold<R: Threads + Wait + Sync>(
+/// Fails unless the two meet in the run.
+fn hold_meeting<R: Threads + Wait + Sync>(rt: &R, alloc: Global, words: &str) -> Result<(), Fail> {
+    match have_met(rt, alloc, words)? {
+        true => Ok(()),
+        false => Err(Fail::new(format!(in alloc; "no meeting: {words}")?)),
+    }
+}
+
+/// Fails if the two meet in the run.
+fn hold_no_meeting<R: Threads + Wait + Sync>(
     rt: &R,
     alloc: Global,
     words: &str,
-    meet: bool,
 ) -> Result<(), Fail> {
+    match have_met(rt, alloc, words)? {
+        true => Err(Fail::new(format!(in alloc; "a meeting: {words}")?)),
+        false => Ok(()),
+    }
+}
+
+/// Whether the two have met in the run, which goes well.
+fn have_met<R: Threads + Wait + Sync>(rt: &R, alloc: Global, words: &str) -> Result<bool, Fail> {
     let meeting = Shared::new(alloc, Meeting::new())?;
     let two = all_watching(alloc, blanks(alloc, 2)?, &meeting)?;
     let told = ran_over(rt, alloc, words, two)?;
     if !told.starts_with("ok\n") {
         return Err(Fail::new(told));
     }
-    if meeting.get().has_been() != meet {
-        return Err(Fail::new(format!(in alloc; "other workers: {words}")?));
-    }
-    Ok(())
+    Ok(meeting.get().has_been())
 }
 
 /// The run over these blanks.

@@ -30,21 +30,21 @@ fn a_session_calls_between_a_failure_and_who_stands_in(rt: HostRuntime) -> Resul
 fn each_order_that_session_a_begins_prints_what_its_turns_print(
     rt: HostRuntime,
 ) -> Result<(), Fail> {
-    hold_orders(&rt, rt.alloc(), BY_A)
+    hold_orders(&rt, rt.alloc(), BY_A, ORDERS_BY_A_SESSION)
 }
 
 #[test]
 fn each_order_that_session_b_begins_prints_what_its_turns_print(
     rt: HostRuntime,
 ) -> Result<(), Fail> {
-    hold_orders(&rt, rt.alloc(), BY_B)
+    hold_orders(&rt, rt.alloc(), BY_B, ORDERS_BY_A_SESSION)
 }
 
 #[test]
 fn each_order_that_a_landing_begins_prints_what_its_turns_print(
     rt: HostRuntime,
 ) -> Result<(), Fail> {
-    hold_orders(&rt, rt.alloc(), BY_THE_LOOP)
+    hold_orders(&rt, rt.alloc(), BY_THE_LOOP, ORDERS_BY_THE_LOOP)
 }
 
 /// The loop waits for the session before it computes the flight, or after. The session waits for the loop, so neither
@@ -214,6 +214,14 @@ const BY_B: u32 = 1;
 
 const BY_THE_LOOP: u32 = 2;
 
+/// So many orders a session begins: one call of its own follows, with two of the other and three moves of the loop,
+/// which is `6! / (1! 2! 3!)`.
+const ORDERS_BY_A_SESSION: u32 = 60;
+
+/// So many orders a landing begins: two calls of each session follow, with two moves of the loop, which is
+/// `6! / (2! 2! 2!)`.
+const ORDERS_BY_THE_LOOP: u32 = 90;
+
 /// How many digits there are of each caller.
 const CALLS_OF_A_SESSION: usize = 2;
 
@@ -301,25 +309,36 @@ fn order_of(alloc: Global, number: u32) -> Result<Option<Order>, Fail> {
 /// How many moves an order has.
 const MOVES: usize = 2 * CALLS_OF_A_SESSION + MOVES_OF_THE_LOOP.len();
 
-/// All orders that this caller begins.
-fn hold_orders<R: Threads + Wait + Sync>(rt: &R, alloc: Global, first: u32) -> Result<(), Fail> {
+/// All orders that this caller begins, of which there are so many.
+fn hold_orders<R: Threads + Wait + Sync>(
+    rt: &R,
+    alloc: Global,
+    first: u32,
+    orders: u32,
+) -> Result<(), Fail> {
+    let mut count: u32 = 0;
     for number in 0..NUMBERS {
-        if number % 3 == first {
-            hold_order(rt, alloc, number)?;
+        if number % 3 == first && hold_order(rt, alloc, number)? {
+            count = count.saturating_add(1);
         }
+    }
+    if count != orders {
+        return Err(Fail::new("more or fewer orders"));
     }
     Ok(())
 }
 
-/// Fails if a live run in the order of this number prints something else than the turns of its schedule.
-fn hold_order<R: Threads + Wait + Sync>(rt: &R, alloc: Global, number: u32) -> Result<(), Fail> {
+/// Whether the number is that of an order. Fails if a live run in that order prints something else than the turns of
+/// its schedule.
+fn hold_order<R: Threads + Wait + Sync>(rt: &R, alloc: Global, number: u32) -> Result<bool, Fail> {
     let Some(order) = order_of(alloc, number)? else {
-        return Ok(());
+        return Ok(false);
     };
     let held = joined(alloc, SCRIPT, order.marks.as_str())?;
     let turns = joined(alloc, SCRIPT, order.turns.as_str())?;
     let scheduled = joined(alloc, ARM, turns.as_str())?;
     let want = BY_TURNS.told(alloc, scheduled.as_str())?;
     let told = told_of(rt, alloc, held.as_str())?;
-    hold_told(alloc, held.as_str(), told.as_str(), want.as_str())
+    hold_told(alloc, held.as_str(), told.as_str(), want.as_str())?;
+    Ok(true)
 }

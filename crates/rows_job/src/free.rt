@@ -35,7 +35,7 @@ fn the_pace_is_called_behind_each_cycle(rt: HostRuntime) -> Result<(), Fail> {
         let ran = run_held(&rt, rt.alloc(), ARM, THREE_CYCLES, OF_THE_LOOP)?;
         hold_sessions(rt.alloc(), &ran, MADE_OF_THREE)?;
         if ran.pauses != 3 {
-            return Err(Fail::new("more pauses than cycles"));
+            return Err(Fail::new("another number of pauses than of cycles"));
         }
     }
     Ok(())
