@@ -71,9 +71,12 @@ const ENDS: &str = "\
 3 cm: description: too_many references
 3 cm: description: too_many claims
 3 cm: description: too_many reads
+3 cm: description: too_many groups
 3 cm: description: name_twice pid/j1/position
 3 cm: description: bad_range cycles
 3 cm: description: no_interface fwd pid/j1/effort
+3 cm: description: no_fallback mk fwd
+3 cm: description: no_member arms mk
 3 cm: description: chain_loop p
 4 cm: script: bad_line 13
 4 cm: script: no_session 8
@@ -147,7 +150,8 @@ fn push_counts(alloc: Global, ends: &mut String) -> Result<(), Fail> {
     push_count(alloc, ends, What::Controllers)?;
     push_count(alloc, ends, What::References)?;
     push_count(alloc, ends, What::Claims)?;
-    push_count(alloc, ends, What::Reads)
+    push_count(alloc, ends, What::Reads)?;
+    push_count(alloc, ends, What::Groups)
 }
 
 fn push_count(alloc: Global, ends: &mut String, what: What) -> Result<(), Fail> {
@@ -161,6 +165,8 @@ fn push_checks(alloc: Global, ends: &mut String) -> Result<(), Fail> {
     let range = text(alloc, "cycles")?;
     push_check(alloc, ends, CheckFault::BadRange(range))?;
     push_check(alloc, ends, no_interface(alloc)?)?;
+    push_check(alloc, ends, no_fallback(alloc)?)?;
+    push_check(alloc, ends, no_member(alloc)?)?;
     let first = Name::read(alloc, b"p")?;
     push_check(alloc, ends, CheckFault::ChainLoop(first))
 }
@@ -169,6 +175,20 @@ fn no_interface(alloc: Global) -> Result<CheckFault, Fail> {
     Ok(CheckFault::NoInterface {
         controller: Name::read(alloc, b"fwd")?,
         interface: IfaceName::read(alloc, b"pid/j1/effort")?,
+    })
+}
+
+fn no_fallback(alloc: Global) -> Result<CheckFault, Fail> {
+    Ok(CheckFault::NoFallback {
+        controller: Name::read(alloc, b"mk")?,
+        name: Name::read(alloc, b"fwd")?,
+    })
+}
+
+fn no_member(alloc: Global) -> Result<CheckFault, Fail> {
+    Ok(CheckFault::NoMember {
+        group: Name::read(alloc, b"arms")?,
+        name: Name::read(alloc, b"mk")?,
     })
 }
 
