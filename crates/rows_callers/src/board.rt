@@ -1,10 +1,8 @@
 //! What the threads of a case share.
 
+use cm_model::MOST_WAITING;
 use std::sync::atomic::Ordering::SeqCst;
 use std::sync::atomic::{AtomicBool, AtomicU64};
-
-/// So many requests can wait.
-const MOST_WAITING: u64 = 4;
 
 /// How far the loop of a case is, and what its sessions have loaded and asked.
 #[derive(Drop)]
@@ -64,10 +62,10 @@ impl Board {
         self.loads.fetch_add(1, SeqCst) == 0
     }
 
-    /// The ticket of one request more, where fewer than four wait.
+    /// The ticket of one request more, where one more can wait.
     pub fn ask(&self) -> Option<u32> {
         let ticket = self.asked.fetch_add(1, SeqCst);
-        if ticket.saturating_sub(self.decided.load(SeqCst)) >= MOST_WAITING {
+        if ticket.saturating_sub(self.decided.load(SeqCst)) >= MOST_WAITING as u64 {
             return None;
         }
         u32::try_from(ticket).ok()
