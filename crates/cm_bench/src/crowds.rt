@@ -8,7 +8,7 @@ ghost use Rattle.turn_lock.specs.declared.TheConstants.{MOST_SEATS};
 use crate::callers::{CallTally, Caller, MutexCaller, PassCaller};
 use crate::desks::booted;
 use crate::plan::TurnsAsked;
-use crate::timing::{Pair, Tenths, Title};
+use crate::timing::{Pair, Tenths};
 use cm_desk::Desk;
 use ctl_trait::Controller;
 use fixed_num::Memory;
@@ -25,21 +25,21 @@ pub fn compare_callers<R>(rt: &R, plan: TurnsAsked) -> anyhow::Result<bool>
 where
     R: Clock + Print + AllocGlobal + Threads + Wait + Sync,
 {
-    let looks = compare_crowd(rt, plan, Crowd::looking(plan), DESK)?;
-    let one = compare_crowd(rt, plan, Crowd::listing(plan, 1), ONE)?;
-    let two = compare_crowd(rt, plan, Crowd::listing(plan, 2), TWO)?;
-    let four = compare_crowd(rt, plan, Crowd::listing(plan, 4), FOUR)?;
-    let eight = compare_crowd(rt, plan, Crowd::listing(plan, 8), EIGHT)?;
+    let looks = compare_crowd(rt, "desk", plan, Crowd::looking(plan))?;
+    let one = compare_crowd(rt, "one_caller", plan, Crowd::listing(plan, 1))?;
+    let two = compare_crowd(rt, "two_callers", plan, Crowd::listing(plan, 2))?;
+    let four = compare_crowd(rt, "four_callers", plan, Crowd::listing(plan, 4))?;
+    let eight = compare_crowd(rt, "eight_callers", plan, Crowd::listing(plan, 8))?;
     Ok(looks && one && two && four && eight)
 }
 
-/// Prints the line of so many callers.
-fn compare_crowd<R>(rt: &R, plan: TurnsAsked, crowd: Crowd, title: Title) -> anyhow::Result<bool>
+/// Prints the line of a crowd, under this name.
+fn compare_crowd<R>(rt: &R, name: &str, plan: TurnsAsked, crowd: Crowd) -> anyhow::Result<bool>
 where
     R: Clock + Print + AllocGlobal + Threads + Wait + Sync,
 {
     let pair = crowd.compare(rt, rt.alloc())?;
-    pair.tell(rt, plan.turns, title)?;
+    pair.tell(rt, name, plan.turns)?;
     Ok(pair.same)
 }
 
@@ -211,30 +211,3 @@ fn sum_of<A>(tallies: &[CallTally<A>]) -> Result<i64, Memory> {
     }
     Ok(sum)
 }
-
-// ---- What the lines are called
-
-const DESK: Title = Title {
-    name: "desk",
-    what: "answers",
-};
-
-const ONE: Title = Title {
-    name: "one_caller",
-    what: "answers",
-};
-
-const TWO: Title = Title {
-    name: "two_callers",
-    what: "answers",
-};
-
-const FOUR: Title = Title {
-    name: "four_callers",
-    what: "answers",
-};
-
-const EIGHT: Title = Title {
-    name: "eight_callers",
-    what: "answers",
-};

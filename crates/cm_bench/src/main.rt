@@ -14,7 +14,7 @@ use std::process::ExitCode;
 use std::rt::{Clock, Env};
 use std::sync::Wait;
 use std::thread::Threads;
-use timing::{Title, Trial};
+use timing::Trial;
 use words::{Measure, asked};
 use workers::tell_workers;
 
@@ -85,8 +85,8 @@ fn compare_over<R>(rt: &R, course: &Trial<'_, Case>) -> anyhow::Result<bool>
 where
     R: Clock + Print + AllocGlobal,
 {
-    let mul = course.tell(rt, MUL, &mut PlainMul, &mut FastMul)?;
-    let over = course.tell(rt, OVER, &mut PlainOver, &mut FastOver)?;
+    let mul = course.tell(rt, "mul", &mut PlainMul, &mut FastMul)?;
+    let over = course.tell(rt, "over", &mut PlainOver, &mut FastOver)?;
     Ok(mul && over)
 }
 
@@ -100,7 +100,12 @@ where
         cases: positions.as_slice(),
         turns: plan.turns,
     };
-    course.tell(rt, GEAR, &mut PlainGear::make(), &mut FastGear::make())
+    course.tell(
+        rt,
+        "transmission",
+        &mut PlainGear::make(),
+        &mut FastGear::make(),
+    )
 }
 
 /// Prints the line of a limiter's update.
@@ -113,30 +118,8 @@ where
         cases: stands.as_slice(),
         turns: plan.turns / LIMIT_SHARE + 1,
     };
-    course.tell(rt, LIMIT, &mut PlainLimiter, &mut FastLimiter::make())
+    course.tell(rt, "limiter", &mut PlainLimiter, &mut FastLimiter::make())
 }
 
 /// A step is looked for in some microseconds, so it gets one turn for so many of the others.
 const LIMIT_SHARE: u64 = 100;
-
-// ---- What the lines are called
-
-const MUL: Title = Title {
-    name: "mul",
-    what: "answers",
-};
-
-const OVER: Title = Title {
-    name: "over",
-    what: "answers",
-};
-
-const GEAR: Title = Title {
-    name: "transmission",
-    what: "answers",
-};
-
-const LIMIT: Title = Title {
-    name: "limiter",
-    what: "answers",
-};

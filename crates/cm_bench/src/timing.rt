@@ -16,13 +16,6 @@ pub struct Trial<'a, C> {
     ghost some: { 0 < turns },
 }
 
-/// What the line of a pair is called, and what is compared in it.
-#[derive(Clone, Copy)]
-pub struct Title {
-    pub name: &'static str,
-    pub what: &'static str,
-}
-
 /// How a plain body and a fast one compare.
 #[derive(Clone, Copy)]
 pub struct Pair {
@@ -51,17 +44,16 @@ impl fmt::Display for Tenths {
 }
 
 impl Pair {
-    /// Prints the line of a pair. One turn has no time worth telling, so its line is the same in each run.
-    pub fn tell<R: Print>(&self, rt: &R, turns: u64, title: Title) -> io::Result<()> {
-        let Title { name, what } = title;
+    /// Prints the line of a pair of this name. One turn has no time worth telling, so its line is the same in each run.
+    pub fn tell<R: Print>(&self, rt: &R, name: &str, turns: u64) -> io::Result<()> {
         if !self.same {
-            return println!(rt; "{name}: {what} differ");
+            return println!(rt; "{name}: answers differ");
         }
         if turns == 1 {
-            return println!(rt; "{name}: same {what}");
+            return println!(rt; "{name}: same answers");
         }
         println!(rt;
-            "{name}: same {what}, {} ns plain, {} ns",
+            "{name}: same answers, {} ns plain, {} ns",
             self.plain, self.fast
         )
     }
@@ -72,7 +64,7 @@ impl<C> Trial<'_, C> {
     pub fn tell<R, P, F>(
         &self,
         rt: &R,
-        title: Title,
+        name: &str,
         plain: &mut P,
         fast: &mut F,
     ) -> anyhow::Result<bool>
@@ -82,7 +74,7 @@ impl<C> Trial<'_, C> {
         F: Contender<C>,
     {
         let pair = self.compare(rt, plain, fast)?;
-        pair.tell(rt, self.turns, title)?;
+        pair.tell(rt, name, self.turns)?;
         Ok(pair.same)
     }
 
