@@ -39,9 +39,8 @@ impl<'a, R: Clock> Stopwatch<'a, R> {
         if let Some(since) = self.since {
             let nanos = now.saturating_sub(since).as_nanos();
             let nanos = u64::try_from(nanos).unwrap_or(u64::MAX);
-            if self.nanos.push(nanos).is_err() {
-                self.since = None;
-            }
+            // A length that finds no room is left out.
+            let _ = self.nanos.push(nanos);
         }
     }
 
