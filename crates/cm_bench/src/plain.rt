@@ -4,16 +4,16 @@ ghost use Rattle.std.specs.Prelude.{◌≡◌, pos, ◌*ℤ◌, ◌<ℤ◌};
 ghost use Rattle.fixed_num.specs.Micro.{clamped};
 ghost use Rattle.fixed_num.specs.Arithmetic.{multiplied, ratio, floor_div};
 
-use fixed_num::Fx;
+use fixed_num::{Fx, LARGEST, MICRO};
 
 /// The largest number, in micro-units.
-const LARGEST: i128 = 1_000_000_000_000_000;
+const TOP: i128 = LARGEST as i128;
 
 /// The product, always by 128 bits.
 pub fn plain_mul(left: Fx, right: Fx) -> Fx
     ensures { result ≡ multiplied left right }
 {
-    in_range(quotient(left.micro(), right.micro(), 1_000_000))
+    in_range(quotient(left.micro(), right.micro(), i64::from(MICRO)))
 }
 
 /// The number times `num` and divided by `den`, always by 128 bits.
@@ -45,5 +45,5 @@ fn floor(product: i128, den: i128) -> i128
 pub fn in_range(n: i128) -> Fx
     ensures { result ≡ clamped n }
 {
-    Fx::from_micro(n.max(-LARGEST).min(LARGEST) as i64)
+    Fx::from_micro(n.max(-TOP).min(TOP) as i64)
 }
