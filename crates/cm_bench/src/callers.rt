@@ -13,20 +13,41 @@ use std::alloc::Global;
 use std::sync::{Mutex, Wait};
 use turn_lock::Kept;
 
+/// What a call asks.
+#[derive(Clone, Copy)]
+pub enum Ask {
+    /// Whether a cycle has ended.
+    Look,
+    /// Which controllers there are.
+    List,
+}
+
 /// One that calls a desk, over and over.
 pub trait Caller {
     /// Lists the controllers: a number that hangs on what is listed.
     fn list(&mut self) -> Result<i64, Memory>;
 
-    /// Asks whether a cycle has ended. If none has, this changes nothing.
-    fn look(&mut self) -> Result<bool, Memory>;
+    /// Asks whether a cycle has ended: a number that hangs on the answer. If none has, this changes nothing.
+    fn look(&mut self) -> Result<i64, Memory>;
 }
 
-/// A number of what a list has, which is not 0.
-fn weight(reply: &Reply) -> i64 {
-    match reply {
+/// A number of what a list has, which is not 0. A reply has many parts, and is dropped at this one place.
+fn weight<C: Controller>(answer: (Reply, Option<C>)) -> i64 {
+    let (reply, unloaded) = answer;
+    drop(unloaded);
+    let weight = match &reply {
         Reply::Controllers(lines) => (lines.get().as_slice().len() as i64).saturating_add(1),
         _ => 0,
+    };
+    drop(reply);
+    weight
+}
+
+/// A number of whether a cycle has ended.
+fn mark(ended: bool) -> i64 {
+    match ended {
+        true => 1,
+        false => 2,
     }
 }
 
@@ -52,14 +73,14 @@ impl<'a, R: Wait, C: Controller> PassCaller<'a, R, C> {
 
 impl<R: Wait, C: Controller> Caller for PassCaller<'_, R, C> {
     fn list(&mut self) -> Result<i64, Memory> {
-        let (reply, _) = self
-            .desk
-            .call(self.rt, &mut self.pass, Call::ListControllers)?;
-        Ok(weight(&reply))
+        Ok(weight(
+            self.desk
+                .call(self.rt, &mut self.pass, Call::ListControllers)?,
+        ))
     }
 
-    fn look(&mut self) -> Result<bool, Memory> {
-        self.desk.reached(self.rt, &mut self.pass, 1)
+    fn look(&mut self) -> Result<i64, Memory> {
+        Ok(mark(self.desk.reached(self.rt, &mut self.pass, 1)?))
     }
 }
 
@@ -75,20 +96,29 @@ pub struct MutexCaller<'a, R, C: Controller> {
 impl<R: Wait, C: Controller> Caller for MutexCaller<'_, R, C> {
     fn list(&mut self) -> Result<i64, Memory> {
         let mut desk = self.desk.lock(self.rt);
-        if self.who >= desk.sessions() {
-            return Ok(0);
-        }
-        let (reply, _) = desk.call(self.alloc, self.who, Call::ListControllers)?;
-        Ok(weight(&reply))
+        list_at(&mut **desk, self.alloc, self.who)
     }
 
-    fn look(&mut self) -> Result<bool, Memory> {
+    fn look(&mut self) -> Result<i64, Memory> {
         let mut desk = self.desk.lock(self.rt);
-        if self.who >= desk.sessions() {
-            return Ok(true);
-        }
-        desk.reached(self.alloc, self.who, 1)
+        look_at(&mut **desk, self.alloc, self.who)
     }
+}
+
+/// Lists the controllers at a desk that nobody else has now.
+fn list_at<C: Controller>(desk: &mut Desk<C>, alloc: Global, who: u32) -> Result<i64, Memory> {
+    if who >= desk.sessions() {
+        return Ok(0);
+    }
+    Ok(weight(desk.call(alloc, who, Call::ListControllers)?))
+}
+
+/// Asks whether a cycle has ended, at a desk that nobody else has now.
+fn look_at<C: Controller>(desk: &mut Desk<C>, alloc: Global, who: u32) -> Result<i64, Memory> {
+    if who >= desk.sessions() {
+        return Ok(0);
+    }
+    Ok(mark(desk.reached(alloc, who, 1)?))
 }
 
 /// A caller, and what it was answered so far.
@@ -108,10 +138,10 @@ impl<A: Caller> CallTally<A> {
         }
     }
 
-    /// As many calls, which look or else list.
-    pub fn call(&mut self, calls: u64, looks: bool) {
+    /// As many calls, all of which ask this.
+    pub fn call(&mut self, calls: u64, ask: Ask) {
         for _ in 0..calls {
-            match answer(&mut self.caller, looks) {
+            match answer(&mut self.caller, ask) {
                 Ok(weight) => self.sum = self.sum.wrapping_add(weight),
                 Err(Memory) => self.is_refused = true,
             }
@@ -119,13 +149,10 @@ impl<A: Caller> CallTally<A> {
     }
 }
 
-/// A number of what one call is answered, which looks or else lists.
-fn answer<A: Caller>(caller: &mut A, looks: bool) -> Result<i64, Memory> {
-    if !looks {
-        return caller.list();
-    }
-    match caller.look()? {
-        true => Ok(1),
-        false => Ok(2),
+/// A number of what one call is answered.
+fn answer<A: Caller>(caller: &mut A, ask: Ask) -> Result<i64, Memory> {
+    match ask {
+        Ask::List => caller.list(),
+        Ask::Look => caller.look(),
     }
 }

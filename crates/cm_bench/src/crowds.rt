@@ -5,7 +5,7 @@ ghost use Rattle.std.specs.Prelude.{◌≡◌, ◌<◌, [], All};
 ghost use Rattle.shared_desk.specs.Passes.{IsSessionPass};
 ghost use Rattle.turn_lock.specs.declared.TheConstants.{MOST_SEATS};
 
-use crate::callers::{CallTally, Caller, MutexCaller, PassCaller};
+use crate::callers::{Ask, CallTally, Caller, MutexCaller, PassCaller};
 use crate::desks::booted;
 use crate::plan::TurnsAsked;
 use crate::timing::{Pair, Tenths};
@@ -43,12 +43,12 @@ where
     Ok(pair.same)
 }
 
-/// So many callers of one desk, how many calls each of them makes, and whether they look or list.
+/// So many callers of one desk, how many calls each of them makes, and what it asks in each.
 #[derive(Clone, Copy)]
 struct Crowd {
     callers: u32,
     calls: u64,
-    looks: bool,
+    ask: Ask,
     ghost few: { callers < MOST_SEATS },
 }
 
@@ -61,7 +61,7 @@ impl Crowd {
         Crowd {
             callers: 1,
             calls: plan.turns,
-            looks: true,
+            ask: Ask::Look,
         }
     }
 
@@ -73,7 +73,7 @@ impl Crowd {
         Crowd {
             callers,
             calls: plan.turns / LIST_SHARE / u64::from(callers) + 1,
-            looks: false,
+            ask: Ask::List,
         }
     }
 
@@ -82,8 +82,8 @@ impl Crowd {
     where
         R: Clock + Threads + Wait + Sync,
     {
-        let (by_mutex, plain) = self.timed_at_mutex(rt, alloc)?;
-        let (by_passes, fast) = self.timed_at_passes(rt, alloc)?;
+        let (by_mutex, plain) = self.timed(rt, alloc, Way::Mutex)?;
+        let (by_passes, fast) = self.timed(rt, alloc, Way::Passes)?;
         Ok(Pair {
             same: by_mutex == by_passes,
             plain,
@@ -91,28 +91,58 @@ impl Crowd {
         })
     }
 
-    fn timed_at_mutex<R>(self, rt: &R, alloc: Global) -> anyhow::Result<(i64, Tenths)>
+    /// The sum of what all calls answer, and the time of one.
+    fn timed<R>(self, rt: &R, alloc: Global, way: Way) -> anyhow::Result<(i64, Tenths)>
     where
         R: Clock + Threads + Wait + Sync,
     {
         let start = Instant::now(rt)?;
-        let sum = at_mutex(rt, alloc, booted(alloc, self.callers)?, self)?;
+        let sum = self.sum(rt, alloc, way)?;
         Ok((sum, self.of_a_call(start.elapsed(rt)?.as_nanos())))
     }
 
-    fn timed_at_passes<R>(self, rt: &R, alloc: Global) -> anyhow::Result<(i64, Tenths)>
+    /// The sum of what all calls answer, at a desk of their own.
+    fn sum<R>(self, rt: &R, alloc: Global, way: Way) -> anyhow::Result<i64>
     where
-        R: Clock + Threads + Wait + Sync,
+        R: Threads + Wait + Sync,
     {
-        let start = Instant::now(rt)?;
-        let sum = at_passes(rt, alloc, booted(alloc, self.callers)?, self)?;
-        Ok((sum, self.of_a_call(start.elapsed(rt)?.as_nanos())))
+        let desk = booted(alloc, self.callers)?;
+        Ok(at_desk(rt, alloc, desk, way, self)?)
     }
 
     /// The time of one call, of all that took so long.
     fn of_a_call(self, nanos: u128) -> Tenths {
         let calls = u128::from(self.calls).saturating_mul(u128::from(self.callers));
         Tenths::of(nanos, calls)
+    }
+}
+
+/// What all callers of a desk share.
+#[derive(Clone, Copy)]
+enum Way {
+    /// Std's mutex round the desk.
+    Mutex,
+    /// The desk's lock, of which each has a pass.
+    Passes,
+}
+
+/// The calls of a crowd at this desk: the sum of what they answer.
+fn at_desk<R, C>(
+    rt: &R,
+    alloc: Global,
+    desk: Desk<C>,
+    way: Way,
+    crowd: Crowd,
+) -> Result<i64, Memory>
+where
+    R: Threads + Wait + Sync,
+    C: Controller + Send,
+    requires empty { desk.made ≡ [] }
+    requires few { desk.opening.sessions < MOST_SEATS }
+{
+    match way {
+        Way::Mutex => at_mutex(rt, alloc, desk, crowd),
+        Way::Passes => at_passes(rt, alloc, desk, crowd),
     }
 }
 
@@ -187,7 +217,7 @@ fn call_all<R: Threads + Sync, A: Caller + Send>(
     tallies: &mut [CallTally<A>],
     crowd: Crowd,
 ) {
-    let (calls, looks) = (crowd.calls, crowd.looks);
+    let (calls, ask) = (crowd.calls, crowd.ask);
     let threads = tallies.len();
     if threads == 0 {
         return;
@@ -196,7 +226,7 @@ fn call_all<R: Threads + Sync, A: Caller + Send>(
         rt,
         tallies,
         threads,
-        &|_: usize, tally: &mut CallTally<A>| { tally.call(calls, looks) },
+        &|_: usize, tally: &mut CallTally<A>| { tally.call(calls, ask) },
     );
 }
 

@@ -3,6 +3,7 @@
 ghost use Rattle.std.specs.Prelude.{◌≡◌, [], IfOk};
 
 use cm_desk::Desk;
+use cm_document::Checked;
 use ctl_mock::Mock;
 use ctl_rack::Stock;
 use desc_check::check;
@@ -12,13 +13,17 @@ use std::alloc::Global;
 /// A description of no cycles, with neither a component nor a controller.
 const EMPTY: &str = "version = 1\nupdate_rate = 100\ncycles = 0\n";
 
-/// Such a desk at boot, of so many sessions.
+fn checked(alloc: Global) -> anyhow::Result<Checked> {
+    let description = read_description(alloc, EMPTY.as_bytes())?;
+    Ok(check(alloc, description)?)
+}
+
+/// A desk of this description at boot, of so many sessions.
 pub fn booted(alloc: Global, sessions: u32) -> anyhow::Result<Desk<Mock>>
     ensures empty { IfOk result (λ desk. desk.made ≡ []) }
     ensures sessions { IfOk result (λ desk. desk.opening.sessions ≡ sessions) }
 {
-    let description = read_description(alloc, EMPTY.as_bytes())?;
-    let checked = check(alloc, description)?;
+    let checked = checked(alloc)?;
     let stock = Stock::make(Vec::new(alloc));
     Ok(Desk::boot(alloc, checked, stock, sessions)?)
 }
