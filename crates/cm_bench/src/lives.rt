@@ -1,8 +1,9 @@
 //! How long a cycle of a live run takes, from before its begin until it has landed, with nobody beside it and with busy
 //! sessions.
 
-use crate::runs::run_over;
+use crate::runs::{Task, words_of};
 use crate::watch::Stopwatch;
+use cm_document::MOST_SESSIONS;
 use fixed_num::Memory;
 use std::alloc::Global;
 use std::io;
@@ -45,13 +46,29 @@ fn run_often<R>(
 where
     R: Clock + Threads + Wait + Sync,
 {
-    let words = [String::from_str(alloc, "live")?];
+    let words = words_of(alloc, &["live"])?;
     let text = work.document(alloc)?;
+    let task = Task {
+        words: words.as_slice(),
+        text: text.as_str(),
+        turns: 0,
+    };
+    run_task(rt, alloc, &task, runs, watch)
+}
+
+fn run_task<R>(
+    rt: &R,
+    alloc: Global,
+    task: &Task<'_>,
+    runs: u64,
+    watch: &mut Stopwatch<'_, R>,
+) -> anyhow::Result<()>
+where
+    R: Clock + Threads + Wait + Sync,
+{
     for _ in 0..runs {
         watch.forget();
-        if !run_over(rt, alloc, &words, text.as_str(), Vec::new(alloc), watch)? {
-            return Err(anyhow::anyhow!("a live run that does not end well"));
-        }
+        task.run(rt, alloc, watch)?;
     }
     Ok(())
 }
@@ -77,9 +94,6 @@ fn at(lengths: &[u64], index: usize) -> u64 {
 
 // ---- The workloads
 
-/// The most sessions that a document may have.
-const SESSIONS: u32 = 8;
-
 /// From one begin to the next, in microseconds.
 const MILLISECOND: u64 = 1_000;
 
@@ -90,7 +104,7 @@ const ALONE: Workload = Workload {
 };
 
 const BUSY: Workload = Workload {
-    sessions: SESSIONS,
+    sessions: MOST_SESSIONS,
     period_us: 0,
     waits: false,
 };
@@ -102,12 +116,12 @@ const ALONE_IN_TIME: Workload = Workload {
 };
 
 const BUSY_IN_TIME: Workload = Workload {
-    sessions: SESSIONS,
+    sessions: MOST_SESSIONS,
     period_us: MILLISECOND,
     waits: true,
 };
 
-/// The cycles of a run. The sessions call through all of them, as each is answered some twice in a cycle.
+/// The cycles of a run. The sessions call through all of them, because each is answered about twice in a cycle.
 const CYCLES: u32 = 500;
 
 /// The calls of a session.
@@ -116,7 +130,7 @@ const LINES: u32 = 1_250;
 /// What goes on in a live run.
 #[derive(Clone, Copy)]
 struct Workload {
-    sessions: u32,
+    sessions: usize,
     /// From one begin to the next, in microseconds; 0 if there is no pause between two cycles.
     period_us: u64,
     /// Whether a session waits for the end of a cycle before each call, or calls all the time.
@@ -127,18 +141,23 @@ impl Workload {
     /// A document of one joint that stands, and of sessions that list the components.
     fn document(self, alloc: Global) -> Result<String, Memory> {
         let mut text = String::new(alloc);
+        self.push_document(&mut text)?;
+        Ok(text)
+    }
+
+    fn push_document(self, text: &mut String) -> Result<(), Memory> {
         write!(
             text,
             "version = 1\nupdate_rate = 1000\ncycles = {CYCLES}\n{ARM}--- script ---\n"
         )?;
         for session in 0..self.sessions {
-            write!(text, "session s{session}\n")?;
-            self.push_session(&mut text)?;
+            self.push_session(text, session)?;
         }
-        Ok(text)
+        Ok(())
     }
 
-    fn push_session(self, text: &mut String) -> Result<(), Memory> {
+    fn push_session(self, text: &mut String, session: usize) -> Result<(), Memory> {
+        write!(text, "session s{session}\n")?;
         match self.waits {
             true => push_waits(text),
             false => push_calls(text),

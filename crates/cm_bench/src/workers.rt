@@ -1,8 +1,8 @@
 //! How long a cycle takes in which controllers of one depth compute for a while, by one worker and by several.
 
-use crate::runs::run_over;
+use crate::runs::{Task, words_of};
 use crate::watch::Stopwatch;
-use crate::working::{MOST_WORKING, blanks, mixed};
+use crate::working::{MOST_WORKING, mixed};
 use fixed_num::Memory;
 use std::alloc::Global;
 use std::rt::Clock;
@@ -48,46 +48,55 @@ where
     R: Clock + Print + AllocGlobal + Threads + Wait + Sync,
 {
     let turns = turns.saturating_mul(micros);
-    for workers in [1, 2, 4, 8] {
-        let nanos = least(rt, rt.alloc(), workers, turns, runs)?;
-        println!(rt; "{CONTROLLERS} of {micros} us by {workers}: {nanos} ns a cycle")?;
-    }
+    tell_least(rt, micros, "1", turns, runs)?;
+    tell_least(rt, micros, "2", turns, runs)?;
+    tell_least(rt, micros, "4", turns, runs)?;
+    tell_least(rt, micros, "8", turns, runs)
+}
+
+fn tell_least<R>(rt: &R, micros: u64, workers: &str, turns: u64, runs: u64) -> anyhow::Result<()>
+where
+    R: Clock + Print + AllocGlobal + Threads + Wait + Sync,
+{
+    let nanos = least(rt, rt.alloc(), workers, turns, runs)?;
+    println!(rt; "{CONTROLLERS} of {micros} us by {workers}: {nanos} ns a cycle")?;
     Ok(())
 }
 
 /// The least time of a cycle by so many workers, in nanoseconds.
-fn least<R>(rt: &R, alloc: Global, workers: u32, turns: u64, runs: u64) -> anyhow::Result<u64>
+fn least<R>(rt: &R, alloc: Global, workers: &str, turns: u64, runs: u64) -> anyhow::Result<u64>
 where
     R: Clock + Threads + Wait + Sync,
 {
-    let words = words(alloc, workers)?;
+    let words = words_of(alloc, &["run", "--workers", workers])?;
+    let text = document(alloc)?;
+    let task = Task {
+        words: words.as_slice(),
+        text: text.as_str(),
+        turns,
+    };
+    least_of(rt, alloc, &task, runs)
+}
+
+fn least_of<R>(rt: &R, alloc: Global, task: &Task<'_>, runs: u64) -> anyhow::Result<u64>
+where
+    R: Clock + Threads + Wait + Sync,
+{
     let mut least = u64::MAX;
     for _ in 0..runs {
-        least = least.min(timed(rt, alloc, words.as_slice(), turns)?);
+        least = least.min(timed(rt, alloc, task)?);
     }
     Ok(least)
 }
 
 /// The time of a cycle of one run, in nanoseconds.
-fn timed<R>(rt: &R, alloc: Global, words: &[String], turns: u64) -> anyhow::Result<u64>
+fn timed<R>(rt: &R, alloc: Global, task: &Task<'_>) -> anyhow::Result<u64>
 where
     R: Clock + Threads + Wait + Sync,
 {
-    let mut watch = Stopwatch::make(rt, alloc, Duration::ZERO);
     let since = rt.monotonic()?;
-    let ended = run_over(
-        rt,
-        alloc,
-        words,
-        DOCUMENT,
-        blanks(alloc, turns)?,
-        &mut watch,
-    )?;
-    let took = rt.monotonic()?.saturating_sub(since);
-    if !ended {
-        return Err(anyhow::anyhow!("a run that does not end well"));
-    }
-    Ok(a_cycle(took))
+    task.run(rt, alloc, &mut Stopwatch::make(rt, alloc, Duration::ZERO))?;
+    Ok(a_cycle(rt.monotonic()?.saturating_sub(since)))
 }
 
 /// The part of a cycle of the time of a run, in nanoseconds.
@@ -95,60 +104,31 @@ fn a_cycle(took: Duration) -> u64 {
     u64::try_from(took.as_nanos()).unwrap_or(u64::MAX) / u64::from(CYCLES)
 }
 
-/// `run --workers N`.
-fn words(alloc: Global, workers: u32) -> Result<Vec<String>, Memory> {
-    let mut words = Vec::new(alloc);
-    words.push(String::from_str(alloc, "run")?)?;
-    words.push(String::from_str(alloc, "--workers")?)?;
-    words.push(format!(in alloc; "{workers}")?)?;
-    Ok(words)
+// ---- The document
+
+/// Mocks, as many as work in a run, which one session switches on.
+fn document(alloc: Global) -> Result<String, Memory> {
+    let mut text = String::new(alloc);
+    push_document(&mut text)?;
+    Ok(text)
 }
 
-/// Eight mocks, which one session switches on.
-const DOCUMENT: &str = r#"version = 1
-update_rate = 100
-cycles = 200
-[[controller]]
-name = "m0"
-type = "mock"
-[[controller]]
-name = "m1"
-type = "mock"
-[[controller]]
-name = "m2"
-type = "mock"
-[[controller]]
-name = "m3"
-type = "mock"
-[[controller]]
-name = "m4"
-type = "mock"
-[[controller]]
-name = "m5"
-type = "mock"
-[[controller]]
-name = "m6"
-type = "mock"
-[[controller]]
-name = "m7"
-type = "mock"
---- script ---
-session a
-load m0
-configure m0
-load m1
-configure m1
-load m2
-configure m2
-load m3
-configure m3
-load m4
-configure m4
-load m5
-configure m5
-load m6
-configure m6
-load m7
-configure m7
-switch strict +m0 +m1 +m2 +m3 +m4 +m5 +m6 +m7
-"#;
+fn push_document(text: &mut String) -> Result<(), Memory> {
+    write!(text, "version = 1\nupdate_rate = 100\ncycles = {CYCLES}\n")?;
+    push_each(text, "[[controller]]\nname = \"m", "\"\ntype = \"mock\"\n")?;
+    text.push_str("--- script ---\nsession a\n")?;
+    push_each(text, "load m", "\n")?;
+    push_each(text, "configure m", "\n")?;
+    text.push_str("switch strict")?;
+    push_each(text, " +m", "")?;
+    text.push_str("\n")?;
+    Ok(())
+}
+
+/// The number of each controller, between these two.
+fn push_each(text: &mut String, before: &str, behind: &str) -> Result<(), Memory> {
+    for number in 0..CONTROLLERS {
+        write!(text, "{before}{number}{behind}")?;
+    }
+    Ok(())
+}
