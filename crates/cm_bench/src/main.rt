@@ -10,6 +10,7 @@ use limits::{FastLimiter, PlainLimiter, limiter};
 use lives::tell_live;
 use plan::TurnsAsked;
 use std::env;
+use std::io::Eprint;
 use std::process::ExitCode;
 use std::rt::{Clock, Env};
 use std::sync::Wait;
@@ -38,13 +39,23 @@ mod working;
 /// Compares the bodies, or times live runs, or runs by several workers. The status is 0 if all answers were the same, 1
 /// if some differ or a call failed, and 2 for words that are no plan.
 fn main(rt: HostRuntime) -> anyhow::Result<ExitCode> {
-    let words: Vec<String> = env::args(&rt)?.skip(1).collect(rt.alloc())?;
-    let asked = asked(words.as_slice());
-    drop(words);
+    let asked = asked_of(&rt)?;
+    measure(&rt, asked)
+}
+
+fn asked_of<R: Env + AllocGlobal>(rt: &R) -> anyhow::Result<Measure> {
+    let words: Vec<String> = env::args(rt)?.skip(1).collect(rt.alloc())?;
+    Ok(asked(words.as_slice()))
+}
+
+fn measure<R>(rt: &R, asked: Measure) -> anyhow::Result<ExitCode>
+where
+    R: Clock + Print + Eprint + AllocGlobal + Threads + Wait + Sync,
+{
     match asked {
-        Measure::Live(runs) => tell_live(&rt, runs)?,
-        Measure::Workers(runs) => tell_workers(&rt, runs)?,
-        Measure::Turns(plan) => return compare_all(&rt, plan),
+        Measure::Live(runs) => tell_live(rt, runs)?,
+        Measure::Workers(runs) => tell_workers(rt, runs)?,
+        Measure::Turns(plan) => return compare_all(rt, plan),
         Measure::Nothing => {
             eprintln!(rt; "cm_bench: usage: cm_bench TURNS SEED | live RUNS | workers RUNS")?;
             return Ok(ExitCode::from(2));
