@@ -18,12 +18,12 @@ use Rattle.cm_top.specs.Answering.{IsAnswer, Refuses, status_for, status_of_acce
 use Rattle.cm_top.specs.Book.{IsShort}
 use Rattle.cm_top.specs.Calls.Answer.{AnswersGiven, AnswersBytes}
 use Rattle.cm_top.specs.Calls.Run.{SourceFacts, SinkFacts, MindsSink, AnswersFrom, written}
-use Rattle.cm_top.specs.Status.{Written, Wrote, ComesOfBytes, IsPlain, IsPlainFault}
+use Rattle.cm_top.specs.Status.{Written, Wrote, ComesOfBytes, IsPlain, IsPlainFault, status_of_fault}
 use Rattle.cm_top.specs.Traced.{Given}
 use Rattle.cm_top.specs.declared.status.Status.{Status}
 use Rattle.cm_top.specs.declared.status.Status.TheVariants as status
 use Rattle.cm_top.proofs.AnswerLemmas.{answer-AnsweredWith, answer-OfBytes, answered-Answers, short_for}
-use Rattle.cm_top.proofs.ReadLemmas.{told-Rose, some_known, read-EndedWith, read-end}
+use Rattle.cm_top.proofs.ReadLemmas.{told-Rose, some_known, read-EndedWith, read-end, unwritten_minds_sink}
 
 -- ---- Of what was given
 
@@ -143,6 +143,22 @@ pub memory_wanted : (job : Answering) (blanks : Blanks) (bytes : List ℕ) (w : 
     → AnswersBytes job blanks bytes w status.Memory
 memory_wanted job blanks bytes w kept =
     record { answered = inl kept; by_bytes = inr (inl refl); of_bytes = tt; plain = tt }
+
+-- so whichever fault they have
+pub fault_answered : (job : Answering) (blanks : Blanks) (bytes : List ℕ) (w : Written) (f : DocumentFault)
+    → IsShort bytes → ((f ≡ fault.Memory → ⊥) → accepted_by job bytes ≡ Err f) → IsPlainFault f → Keeps w.old w.new
+    → AnswersBytes job blanks bytes w (status_of_fault f)
+fault_answered job blanks bytes w (fault.Description p) short refused plain kept =
+    description_refused job blanks bytes w p short (refused (λ memory. cc)) plain
+fault_answered job blanks bytes w (fault.Script f) short refused plain kept =
+    script_refused job blanks bytes w f short (refused (λ memory. cc)) plain
+fault_answered job blanks bytes w fault.Memory short refused plain kept = memory_wanted job blanks bytes w kept
+
+-- and none is one of writing
+pub fault_minds_sink : (sink : SinkFacts) (f : DocumentFault) → MindsSink sink sink (status_of_fault f)
+fault_minds_sink sink (fault.Description p) = unwritten_minds_sink sink (status.BadDescription p) (λ failed. cc)
+fault_minds_sink sink (fault.Script f) = unwritten_minds_sink sink (status.BadScript f) (λ failed. cc)
+fault_minds_sink sink fault.Memory = unwritten_minds_sink sink status.Memory (λ failed. cc)
 
 -- ---- Of a source
 

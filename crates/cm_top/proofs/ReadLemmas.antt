@@ -12,17 +12,18 @@ use Rattle.cm_document.specs.Grammars.{whole_grammar}
 use Rattle.cm_document.specs.Document.{document}
 use Rattle.cm_document.specs.ScriptLaws.{MeetsRules}
 use Rattle.cm_document.specs.declared.document.Document.{Document}
+use Rattle.cm_document.specs.declared.faults.DocumentFault.{DocumentFault}
 use Rattle.cm_document.specs.declared.faults.DocumentFault.TheVariants as document_fault
 use Rattle.cm_model.specs.declared.blanks.Blanks.{Blanks}
 use Rattle.make_document.specs.Made.{made}
 use Rattle.make_document.specs.Meant.{made_document}
 use Rattle.make_document.proofs.AcceptedLemmas.{made_is_accepted}
 use Rattle.cm_words.specs.declared.job.TheConstants.{MOST_ROUNDS}
-use Rattle.cm_top.specs.Book.{BookFacts, Task}
+use Rattle.cm_top.specs.Book.{BookFacts, IsShort, Task}
 use Rattle.cm_top.specs.Calls.Read.{ReadAs, EndsUnread, Reads, ReadsBytes, ReadsFrom, MindsSource}
 use Rattle.cm_top.specs.Calls.Run.{SourceFacts, SinkFacts, MindsSink, MindsFaults, Runs, RunsMade, RunsFrom, written}
 use Rattle.cm_top.specs.Status.{Written, EndedWith, HandsOut, Wrote, RanDocument, ComesOfBytes}
-use Rattle.cm_top.specs.Status.{ComesBeforeWriting, status_of, status_of_document}
+use Rattle.cm_top.specs.Status.{ComesBeforeWriting, IsPlainFault, status_of, status_of_document, status_of_fault}
 use Rattle.cm_top.specs.declared.status.Status.{Status}
 use Rattle.cm_top.specs.declared.status.Status.TheVariants as status
 use Rattle.cm_top.proofs.TopLemmas.{document-Rules, RanDocument-EndedWith, RanDocument-HandsOut}
@@ -291,7 +292,8 @@ reads-EndsUnread (Some rounds) source source' ended reads = read-EndsUnread (mad
 -- ---- Faults from outside
 
 -- where nothing was written, no fault of writing is told
-unwritten_minds_sink : (sink : SinkFacts) (ended : Status) → (ended ≡ status.WriteFault → ⊥) → MindsSink sink sink ended
+pub unwritten_minds_sink : (sink : SinkFacts) (ended : Status) → (ended ≡ status.WriteFault → ⊥)
+    → MindsSink sink sink ended
 unwritten_minds_sink sink ended none = record {
   write_fault = record { later = omega arith; counted = λ failed. absurd (none failed); uncounted = λ other. refl };
   unflushed = λ other. refl;
@@ -360,3 +362,13 @@ untouched_minds_faults source sink ended none = record {
   read_at_most = ([], omega arith, Consumes-nil source.left);
   of_sink = unwritten_minds_sink sink ended (λ failed. rw failed at none);
 }
+
+-- bytes that are not accepted are read as their first fault
+pub fault-ReadsBytes : (bytes : List ℕ) (f : DocumentFault) → IsShort bytes
+    → ((f ≡ document_fault.Memory → ⊥) → document whole_grammar bytes ≡ Err f) → IsPlainFault f
+    → ReadsBytes bytes (Err (status_of_fault f))
+fault-ReadsBytes bytes (document_fault.Description p) short refused plain =
+    record { read = (short, refused (λ memory. cc)); of_bytes = tt; plain = plain }
+fault-ReadsBytes bytes (document_fault.Script f) short refused plain =
+    record { read = (short, refused (λ memory. cc)); of_bytes = tt; plain = plain }
+fault-ReadsBytes bytes document_fault.Memory short refused plain = record { read = tt; of_bytes = tt; plain = tt }

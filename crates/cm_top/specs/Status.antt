@@ -88,12 +88,16 @@ HandsOut task blanks w status.Memory None = Keeps w.old w.new
 HandsOut task blanks w status.Memory (Some book) = (bytes : List ℕ) × Cut task bytes blanks w book
 HandsOut task blanks w _ book = book ≡ None
 
+-- the status that tells a fault of a document
+abbrev pub status_of_fault : DocumentFault → Status
+status_of_fault (fault.Description p) = status.BadDescription p
+status_of_fault (fault.Script f) = status.BadScript f
+status_of_fault fault.Memory = status.Memory
+
 -- The status that a document asks for, where it can be read and written: its first fault, or all of its trace.
 abbrev pub status_of_document : Result Document DocumentFault → Status
 status_of_document (Ok d) = status.Ok
-status_of_document (Err (fault.Description p)) = status.BadDescription p
-status_of_document (Err (fault.Script f)) = status.BadScript f
-status_of_document (Err fault.Memory) = status.Memory
+status_of_document (Err f) = status_of_fault f
 
 -- The length comes first, then the description, then the script.
 abbrev pub status_of : List ℕ → Status

@@ -12,7 +12,6 @@ ghost use Rattle.cm_top.specs.Status.{ComesBeforeWriting};
 use crate::document::{Traced, read_traced};
 use crate::status::Status;
 use crate::upgrade::write;
-use cm_document::DocumentFault;
 use cm_model::Blanks;
 use outside_io::Sink;
 use std::alloc::Global;
@@ -30,9 +29,7 @@ pub fn check_bytes<K: Sink>(alloc: Global, bytes: &[u8], sink: &mut K, blanks: &
 {
     match read_traced(alloc, bytes) {
         Ok(traced) => check_document(alloc, &traced, sink, blanks),
-        Err(DocumentFault::Description(problem)) => Status::BadDescription(problem),
-        Err(DocumentFault::Script(fault)) => Status::BadScript(fault),
-        Err(DocumentFault::Memory) => Status::Memory,
+        Err(fault) => Status::from(fault),
     }
 }
 

@@ -11,7 +11,7 @@ ghost use Rattle.cm_top.specs.Wished.{planned_text};
 use crate::status::Status;
 use crate::upgrade::write;
 use crate::wish::{read_wish, wanted_in};
-use cm_document::{Document, DocumentFault};
+use cm_document::Document;
 use cm_model::Blanks;
 use outside_io::Sink;
 use script_text::print_script;
@@ -30,9 +30,7 @@ pub fn plan_bytes<K: Sink>(alloc: Global, bytes: &[u8], sink: &mut K, blanks: &B
 {
     match read_wish(alloc, bytes) {
         Ok(document) => plan_document(alloc, &document, sink, blanks),
-        Err(DocumentFault::Description(problem)) => Status::BadDescription(problem),
-        Err(DocumentFault::Script(fault)) => Status::BadScript(fault),
-        Err(DocumentFault::Memory) => Status::Memory,
+        Err(fault) => Status::from(fault),
     }
 }
 

@@ -9,7 +9,7 @@ ghost use Rattle.cm_top.specs.Calls.Run.{source_facts};
 
 use crate::document::read_document;
 use crate::status::Status;
-use cm_document::{Document, DocumentFault, LONGEST_DOCUMENT};
+use cm_document::{Document, LONGEST_DOCUMENT};
 use fixed_num::Memory;
 use make_document::make_document;
 use outside_io::{ReadFault, Source, read_whole};
@@ -65,10 +65,5 @@ fn accepted(alloc: Global, bytes: &[u8]) -> Result<Document, Status>
     requires { length bytes.now ≤ LONGEST_DOCUMENT }
     ensures { ReadsBytes bytes.now result }
 {
-    match read_document(alloc, bytes) {
-        Ok(document) => Ok(document),
-        Err(DocumentFault::Description(problem)) => Err(Status::BadDescription(problem)),
-        Err(DocumentFault::Script(fault)) => Err(Status::BadScript(fault)),
-        Err(DocumentFault::Memory) => Err(Status::Memory),
-    }
+    Ok(read_document(alloc, bytes)?)
 }

@@ -1,6 +1,6 @@
 //! How a run ended.
 
-use cm_document::{DescProblem, ScriptFault};
+use cm_document::{DescProblem, DocumentFault, ScriptFault};
 use sequence::Seq;
 use spawn_plan::SpawnFault;
 use thiserror::Error;
@@ -64,6 +64,21 @@ impl Status {
             Status::WriteFault => 8,
             Status::NotLegal { .. } => 9,
             Status::CannotSpawn(_) => 10,
+        }
+    }
+}
+
+impl From<DocumentFault> for Status {
+    ghost use Rattle.std.specs.Prelude.{◌≡◌};
+    ghost use Rattle.cm_top.specs.Status.{status_of_fault};
+
+    ghost from_gives = { λ fault e. e ≡ status_of_fault fault };
+
+    fn from(fault: DocumentFault) -> Status {
+        match fault {
+            DocumentFault::Description(problem) => Status::BadDescription(problem),
+            DocumentFault::Script(fault) => Status::BadScript(fault),
+            DocumentFault::Memory => Status::Memory,
         }
     }
 }
