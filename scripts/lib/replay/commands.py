@@ -3,10 +3,15 @@
 `./try run < examples/switch.cm` is to print the example's trace, and `./try draw < examples/failures.cm` the picture.
 The first of them may say in one line on standard error that it compiles; a second line would say that the list of the
 kit's sources went stale, and takes a minute. The second command says nothing. Then each command, and each tool of
-scripts, helps who asks for it. Prints a line a command, and last `N passed, M failed`. The exit status is 1 if one
-failed.
+scripts, helps who asks for it. Last come lines for a shell, each with what it prints and tells: over links to the
+commands, a folder in place of a document, wrong words and the like. Prints a line for each, and last `N passed, M
+failed`. The exit status is 1 if one failed.
 """
 
+import tempfile
+from pathlib import Path
+
+from ..documents import SEPARATOR
 from ..tool import Tally
 from ..tree import TOP
 from . import programs
@@ -17,6 +22,41 @@ ANSWERS = (
 )
 COMMANDS = ("cm", "try", "draw", "spawn", "test")
 LINES_OF_HELP = 15
+
+LINKED = ("cm", "try", "draw", "spawn")
+# TOML 1.1 behind a byte order mark: line feeds stand in an inline table. Its mock is never ready.
+NEVER_READY = b"""\xef\xbb\xbfversion = 1
+update_rate = 100
+cycles = 2
+controller = [{
+    name = "mk", type = "mock", not_ready = [0, 1],
+}]
+"""
+WHY_NEVER = "cm: plan: no_cycle\nspawn: mk is not ready in the cycles 0, 1\nspawn: the run has 2 cycles\n"
+# Lines for a shell that print nothing, each with its status and what it tells on standard error. {at} is a folder with
+# links to the commands, with this description, and with the script of the first document above.
+FAULTS = (
+    ("./try run < scripts", 5, "cm: read fault\n"),
+    ("./try draw < scripts", 5, "cm: read fault\n"),
+    ("CM=./try ./spawn {at}/never_ready +mk", 10, WHY_NEVER),
+    ("CM=./none ./spawn {at}/never_ready +mk", 1, "spawn: ./none: No such file or directory\n"),
+    *(
+        (f"CM=./try ./spawn {{at}}/never_ready {word}", 2, f"spawn: {word} is no +NAME of a controller\n")
+        for word in ("+1a", "+@motion", "mk", f"+{'k' * 65}")
+    ),
+)
+# Lines that tell nothing and end well, each with another line that prints the same.
+SAME = (
+    ("./try -h", "scripts/help try"),
+    ("./try --help", "scripts/help try"),
+    ("./try draw -h", "scripts/help draw"),
+    ("./try draw --help", "scripts/help draw"),
+    ("{at}/cm -h", "scripts/help cm"),
+    ("{at}/draw -h", "scripts/help draw"),
+    ("{at}/try run < examples/switch.cm", "cat examples/switch.cm.stdout"),
+    ("CM={at}/try {at}/spawn examples/chain.cm +traj +pid", "CM=./try ./spawn examples/chain.cm +traj +pid"),
+    ("CM=./try scripts/check_trace examples/switch.cm {at}/script examples/switch.cm.stdout", "echo legal"),
+)
 
 
 def reason(word, document, expected, lines):
@@ -40,6 +80,27 @@ def tool_lacks_help(tool):
     return None if status == 0 and output and not said else "it does not help"
 
 
+def fill(at):
+    """Puts into the folder what the lines use."""
+    for command in LINKED:
+        (at / command).symlink_to(TOP / command)
+    (at / "never_ready").write_bytes(NEVER_READY)
+    (at / "script").write_text((TOP / ANSWERS[0][1]).read_text().partition(SEPARATOR)[2])
+
+
+def differs(line, wanted):
+    """Returns what is wrong with the status, the output and the standard error of a line, or None."""
+    came = programs.ran(["sh", "-c", line])
+    return None if came == wanted else f"it comes to {str(came)[:300]}"
+
+
+def try_lines(at, tally):
+    for line, status, told in FAULTS:
+        tally.tell(line, differs(line.format(at=at), (status, b"", told.encode())))
+    for line, other in SAME:
+        tally.tell(line, differs(line.format(at=at), (0, programs.ran(["sh", "-c", other])[1], b"")))
+
+
 def main(asked):
     tally = Tally()
     for word, document, *expected in ANSWERS:
@@ -48,4 +109,7 @@ def main(asked):
         tally.tell(f"./{command} --help", lacks_help(command))
     for tool in sorted(it for it in (TOP / "scripts").iterdir() if it.is_file()):
         tally.tell(f"scripts/{tool.name} --help", tool_lacks_help(tool))
+    with tempfile.TemporaryDirectory() as at:
+        fill(Path(at))
+        try_lines(at, tally)
     return tally.end()
