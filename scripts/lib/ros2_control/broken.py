@@ -66,6 +66,10 @@ OF_YAML = (
     ("a type is no text", r"type: (\w+/\w+)", "7", "type", 0),
     ("a type is a list", r"type: (\w+/\w+)", "[a, b]", "type", 0),
     ("a type lacks", r"\n      (type): \w+/\w+", "tipe", "no type", 0),
+    *(
+        ("a type is misspelled, and names no class", r"\n      (type: \w+/\w+)", text, "no type", 0)
+        for text in ("typ: x", "tpye: x", "Type: x", "types: [x]")
+    ),
     ("joints are no list", r"joints: (\[.*\])", "joint1", "joints", 0),
     ("a joint is a number", r"joints: \[(\w+)", "1.5", "1.5", 0),
     ("a list is empty", r"(?:joints|dof_names): (\[.*\])\n(?!    interfaces)", "[]", "no item", 0),

@@ -1,5 +1,6 @@
 """What a YAML says of its controllers: each becomes one of our kinds, or a mock that claims nothing."""
 
+import difflib
 import re
 from dataclasses import dataclass, field
 
@@ -16,6 +17,7 @@ TYPE = re.compile(r"[a-z]\w*/[A-Z]\w*", re.ASCII)
 FALLBACKS = "fallback_controllers"
 MOST_FALLBACKS = 8  # of one controller of ours
 OF_CONTROLLERS = (FALLBACKS, "params_file")  # keys of a controller in the manager's list besides its type
+LIKE_TYPE = 0.7  # how like `type` a key is that was meant to be it, as `typ` and `tpye`; no parameter of a manager is
 
 
 @dataclass(frozen=True)
@@ -92,7 +94,8 @@ def listed(manager, nodes, listing):
         elif name == INITIAL and word in ("unconfigured", "inactive"):
             continue
         elif key != "update_rate":
-            is_controller = name in nodes or word in OF_CONTROLLERS or TYPE.fullmatch(node.shown())
+            is_of_one = word in OF_CONTROLLERS or difflib.get_close_matches(word.lower(), ["type"], cutoff=LIKE_TYPE)
+            is_controller = name in nodes or is_of_one or TYPE.fullmatch(node.shown())
             if is_controller and f"{name}.type" not in manager.values:
                 raise Refused(node.place, f"controller {quoted(name)} has no type")
             if word != FALLBACKS:
