@@ -65,5 +65,8 @@ fn accepted(alloc: Global, bytes: &[u8]) -> Result<Document, Status>
     requires { length bytes.now ≤ LONGEST_DOCUMENT }
     ensures { ReadsBytes bytes.now result }
 {
-    Ok(read_document(alloc, bytes)?)
+    match read_document(alloc, bytes) {
+        Ok(document) => Ok(document),
+        Err(fault) => Err(Status::from(fault)),
+    }
 }

@@ -107,8 +107,14 @@ pub fn run_alone<S: Source, K: Sink, C: Controller>(
     ensures spared { SparesAlone job.now result.0 source.old source.new sink.old sink.new }
 {
     match job.kind {
-        JobKind::Check => (answer_alone(alloc, Question::Check, source, sink, stock.blanks()), None),
-        JobKind::Plan => (answer_alone(alloc, Question::Plan, source, sink, stock.blanks()), None),
+        JobKind::Check => (
+            answer_alone(alloc, Question::Check, source, sink, stock.blanks()),
+            None,
+        ),
+        JobKind::Plan => (
+            answer_alone(alloc, Question::Plan, source, sink, stock.blanks()),
+            None,
+        ),
         _ => match read_job(alloc, job.make, source) {
             Ok(document) => do_job(alloc, job, document, sink, stock),
             Err(status) => (status, None),
