@@ -3,19 +3,10 @@ use Rattle.cm_top.proofs.ReadLemmas.{IsNoFault, untouched_minds_faults}
 use Rattle.cm_program.proofs.words.run_words.Goals as goal
 
 -- the words that the system told ran
-pub returns-in_ok-in-Ok-clause-ran : goal.returns-in_ok-in-Ok-clause-ran
-returns-in_ok-in-Ok-clause-ran g c = inl (_, c.in_ok-in-Ok.ensures)
+pub returns-in-Ok-run_stocked-clause-ran : goal.returns-in-Ok-run_stocked-clause-ran
+returns-in-Ok-run_stocked-clause-ran g c = inl (_, c.in-Ok-run_stocked.ensures.ran)
 
--- without boxes nothing did
-pub returns-in_ok-in-Err-clause-ran : goal.returns-in_ok-in-Err-clause-ran
-returns-in_ok-in-Err-clause-ran g c =
-    inr (record {
-      cause = inr refl;
-      nothing_read = c.in_ok-in-Err.ensures.0;
-      nothing_written = c.in_ok-in-Err.ensures.1;
-    })
-
--- nor where the words can't be had
+-- without words nothing did
 pub returns-in-Err-clause-ran : goal.returns-in-Err-clause-ran
 returns-in-Err-clause-ran g c =
     inr (record { cause = c.in-Err.ensures; nothing_read = refl; nothing_written = refl })
