@@ -38,14 +38,22 @@ def crate(name, top=TOP):
     return kit().Crate(str(Path(top) / "crates" / name), str(top), {}, name=None)
 
 
+@functools.cache
+def changed_at(folder):
+    """When the last source of the crate in this folder changed."""
+    files = (it for part in kit().PARTS for it in Path(folder, part).rglob("*") if it.suffix in (".rt", ".antt"))
+    return max((it.stat().st_mtime for it in files), default=0)
+
+
 def is_there(library):
-    """Whether a library is built of the sources as they are: by `rt lib`, which leaves a stamp, or by `rt ci`."""
-    if library.is_built():
-        return True
+    """Whether a library is built of the sources as they are: by `rt lib`, which leaves a stamp, or by `rt ci`.
+
+    The kit reads all that is below a crate anew for each way down to it, so it is asked for stamps that are there alone.
+    """
     built = Path(library.rlib)
-    parts = [Path(below.folder, part) for below in [library, *library.below()] for part in kit().PARTS]
-    files = [it for part in parts for it in part.rglob("*") if it.suffix in (".rt", ".antt")]
-    return built.is_dir() and built.stat().st_mtime > max(it.stat().st_mtime for it in files)
+    if (built.parent / "stamp").exists() and library.is_built():
+        return True
+    return built.is_dir() and built.stat().st_mtime > max(changed_at(it.folder) for it in [library, *library.below()])
 
 
 def are_below(of):
