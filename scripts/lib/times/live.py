@@ -60,15 +60,14 @@ def time_on_two(program, document):
 
 def tell_waiting(program, document, alone):
     """Prints how long a run takes in which all sessions wait, and which part of a processor they take."""
-    took, busy, _, busy_alone = zip(
+    took, busy, took_alone, busy_alone = zip(
         *((*time_on_two(program, document), *time_on_two(program, alone)) for _ in range(WAITING_RUNS))
     )
     part = (sum(busy) - sum(busy_alone)) / sum(took)
     print(
-        f"A live run of `bare` in which eight sessions wait for its last cycle took {max(took) * 1000:.0f} ms at "
-        "most on two processors,"
+        f"On two processors a live run of `bare` took {max(took_alone) * 1000:.0f} ms at most, and "
+        f"{max(took) * 1000:.0f} ms with eight sessions that wait for its\nlast cycle. These took {part:.2f} of a processor."
     )
-    print(f"and {part:.2f} of a processor more than without them.")
 
 
 def of_callers(bench):
