@@ -1,5 +1,5 @@
 -- When the cause is true that a refusal names. A cause is said of the name of a controller, or of a component.
-use Rattle.std.specs.Prelude.{◌≡◌, ◌≢◌, ◌⊎◌, ℕ, ◌<◌, ◌==◌, Bool, true, false, not, ◌&&◌, List, [], length}
+use Rattle.std.specs.Prelude.{◌≡◌, ◌≢◌, ◌⊎◌, ℕ, ◌<◌, ◌==◌, Bool, true, false, not, ◌&&◌, ◌||◌, List, [], length}
 use Rattle.std.specs.Prelude.{slice_index_or, Some, None, is_some, Contains}
 use Rattle.std.specs.List.{list_any}
 use Rattle.std.specs.Option.{option_map_or}
@@ -19,18 +19,18 @@ use Rattle.cm_model.specs.Commit.{described_of}
 use Rattle.cm_model.specs.Components.{is_available, has_move}
 use Rattle.cm_model.specs.Faults.{component_with}
 use Rattle.cm_model.specs.Order.{Places}
-use Rattle.cm_model.specs.Scene.{Scene, is_running, is_configured, controllers_in, described, named}
+use Rattle.cm_model.specs.Scene.{Scene, is_running, is_configured, controllers_in, described, active, named}
 use Rattle.cm_model.specs.State.{State, is_active}
-use Rattle.cm_model.specs.Switches.{switched}
 use Rattle.cm_model.specs.declared.cause.Cause.{Cause}
 use Rattle.cm_model.specs.declared.cause.Cause.TheVariants as cause
 use Rattle.cm_model.specs.declared.seen.Seen.{Seen}
 
 -- ---- Of a strict switch
 
--- the set that a strict switch leads to
+-- The set that a strict switch leads to: the active controllers that it does not name to leave, and those that it names
+-- to come.
 abbrev pub strict_set : Scene → List (List ℕ) → List (List ℕ) → Places
-strict_set scene off on = switched scene (named scene off) (named scene on)
+strict_set scene off on p = (active scene p && not (named scene off p)) || named scene on p
 
 -- a loaded controller has this name
 pub record IsCalled (scene : Scene) (name : List ℕ) (seen : Seen) : Type 0 where

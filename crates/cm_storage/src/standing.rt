@@ -1,6 +1,6 @@
 //! Bodies that stand: one list of them for the records of all cycles that tell them alone.
 
-ghost use Rattle.std.specs.Prelude.{◌≡◌, ◌<◌, ◌^◌, [], true, false, length, is_some, IfOk, IfSome, OnOk};
+ghost use Rattle.std.specs.Prelude.{◌≡◌, ◌⊎◌, ◌<◌, ◌^◌, [], true, false, length, is_some, IfOk, IfSome, OnOk, OnErr};
 ghost use Rattle.cm_storage.specs.Held.{bodies_in};
 
 use crate::bodies::are_same;
@@ -48,6 +48,7 @@ impl Standing {
     pub fn prepare(&mut self, alloc: Global, joints: usize) -> Result<(), AllocError>
         ensures told { self.new.told ≡ self.old.told }
         ensures ready { OnOk result (0 < length self.old.told → self.new.is_ready ≡ true) }
+        ensures kept { OnErr result (self.new ≡ self.old) }
     {
         if self.next.is_some() {
             return Ok(());
@@ -66,6 +67,7 @@ impl Standing {
     fn renew(&mut self, alloc: Global, joints: usize) -> Result<(), AllocError>
         ensures told { self.new.told ≡ self.old.told }
         ensures ready { OnOk result (0 < length self.old.told → self.new.is_ready ≡ true) }
+        ensures kept { OnErr result (self.new ≡ self.old) }
     {
         if self.told.is_empty() {
             return self.told.reserve(joints);
@@ -81,6 +83,8 @@ impl Standing {
     pub fn tell(&mut self, cycle: u64, bodies: &[BodyState]) -> Option<CycleRecord>
         ensures told { IfSome result (λ made. made ≡ bodies_in cycle bodies.now) }
         ensures ready { self.old.told ≡ bodies.now → cycle < 2 ^ 32 → is_some result ≡ self.old.is_ready }
+        ensures after { (self.new.told ≡ bodies.now) ⊎ (self.new.told ≡ []) }
+        ensures taken { self.new.is_ready ≡ false }
     {
         if are_same(self.told.as_slice(), bodies) && cycle < 1 << 32 {
             return self.tell_again(cycle as u32);
@@ -94,6 +98,7 @@ impl Standing {
     fn tell_again(&mut self, cycle: u32) -> Option<CycleRecord>
         ensures told { IfSome result (λ made. made ≡ bodies_in cycle self.old.told) }
         ensures ready { is_some result ≡ self.old.is_ready }
+        ensures after { self.new ≡ record { told = self.old.told; is_ready = false } }
     {
         match self.next.take() {
             Some(list) => Some(CycleRecord::of_bodies(cycle, list)),
@@ -102,7 +107,10 @@ impl Standing {
     }
 
     /// These bodies are those that were told last, where there is room for them.
-    fn keep(&mut self, bodies: &[BodyState]) {
+    fn keep(&mut self, bodies: &[BodyState])
+        ensures after { (self.new.told ≡ bodies.now) ⊎ (self.new.told ≡ []) }
+        ensures taken { self.new.is_ready ≡ false }
+    {
         self.list = None;
         self.next = None;
         self.told.clear();
