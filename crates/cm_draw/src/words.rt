@@ -2,11 +2,11 @@
 
 ghost use Rattle.cm_top.specs.Book.{RunsAlone};
 
+use cm_program::given_words;
 use cm_top::Status;
 use cm_words::{Job, JobKind};
 use std::alloc::Global;
 use std::rt::Env;
-use std::{env, io};
 
 /// What is drawn.
 #[derive(Drop)]
@@ -64,15 +64,7 @@ pub enum Written {
 /// What the words after the program's name ask for: the job, `run` where none is named, and behind it `--why`, or
 /// `--name` and the document's name.
 pub fn asked_of<E: Env + AllocGlobal>(rt: &E) -> Result<DrawJob, Status> {
-    let args = match env::args(rt) {
-        Ok(args) => args,
-        Err(fault) if fault.kind() == io::ErrorKind::OutOfMemory => return Err(Status::Memory),
-        Err(_) => return Err(Status::BadWords),
-    };
-    let words: Vec<String> = match args.skip(1).collect(rt.alloc()) {
-        Ok(words) => words,
-        Err(_) => return Err(Status::Memory),
-    };
+    let words = given_words(rt)?;
     asked_by(rt.alloc(), words.as_slice())
 }
 

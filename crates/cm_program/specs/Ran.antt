@@ -23,7 +23,7 @@ module _ {S K : Type 0} (of_source : S → SourceFacts) (of_sink : K → SinkFac
     pub untouched : ComesBeforeWriting ended → sink' ≡ sink
     pub outside : MindsFaults (of_source source) (of_source source') (of_sink sink) (of_sink sink') ended
 
--- Nothing was run, read or written: words can't be had of the system, or are no text, or memory ran out.
+-- Nothing was run, read or written, and the status is that of words that are not accepted, or of want of memory.
 pub record RanNothing {S K : Type 0} (source source' : S) (sink sink' : K) (ended : Status) : Type 0 where
   pub cause : (ended ≡ status.BadWords) ⊎ (ended ≡ status.Memory)
   pub nothing_read : source' ≡ source

@@ -7,4 +7,4 @@ mod words;
 
 pub use status::report;
 pub use stock::BLANKS;
-pub use words::run_words;
+pub use words::{given_words, run_words};

@@ -37,7 +37,7 @@ where
         (source_facts S.left S.faults source.old) (source_facts S.left S.faults source.new)
         (sink_facts K.taken K.flushed K.faults sink.old) (sink_facts K.taken K.flushed K.faults sink.new) result }
 {
-    let words = match words(words_of) {
+    let words = match given_words(words_of) {
         Ok(words) => words,
         Err(status) => return status,
     };
@@ -47,8 +47,9 @@ where
     }
 }
 
-/// The words after the program's name.
-fn words<E: Env + AllocGlobal>(rt: &E) -> Result<Vec<String>, Status>
+/// The words that a program was started with, after its name. If the system has none, or they are not UTF-8, they are
+/// not accepted.
+pub fn given_words<E: Env + AllocGlobal>(rt: &E) -> Result<Vec<String>, Status>
     ensures { IfErr result (λ status. (status ≡ Status.BadWords) ⊎ (status ≡ Status.Memory)) }
 {
     let args = match env::args(rt) {

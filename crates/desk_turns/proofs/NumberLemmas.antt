@@ -1,16 +1,18 @@
 -- The numbers of a job's sessions.
 use Rattle.std.proofs.Common.{◌≡◌, ℕ, zero, suc, ◌+◌, ◌<◌, List, [], ◌∷◌, ◌++◌, None, length, get_or}
 use Rattle.std.proofs.Common.{map, take, drop, slice_set, refl, sym, ap, ◌∙◌, arith, take-suc}
-use Rattle.std.proofs.lemmas.List.{length-map, length-set, map-append}
+use Rattle.std.proofs.lemmas.List.{length-map, length-set, map-append, set-get_or}
+use Rattle.std.proofs.lemmas.Option.{same_Some}
 use Rattle.cm_desk.specs.Desk.{History}
 use Rattle.cm_model.specs.Ports.{Console}
 use Rattle.cm_document.specs.declared.call.Call.{Call}
 use Rattle.cm_document.specs.declared.script.SessionText.{SessionText}
 use Rattle.cm_model.specs.Scheduled.{Session}
-use Rattle.console_session.specs.Sessions.{SessionState, at_first, left_of, Advances}
+use Rattle.console_session.specs.Sessions.{SessionState, at_first, left_of, Advances, HasStopped}
 use Rattle.console_session.specs.declared.session.Progress.{Progress}
 use Rattle.console_session.specs.declared.session.Progress.TheVariants as progress
 use Rattle.desk_turns.specs.Jobs.{AreAtFirst, AreNumberedFrom, AreSessionsOf}
+use Rattle.desk_turns.specs.Ports.{desk_console}
 
 -- an advance leaves a session its number
 pub advanced-who : (p : Progress) (old new : Console) (x x' : SessionState) → Advances p old new x x' → x'.who ≡ x.who
@@ -116,3 +118,13 @@ sessions_over_port first h h' last xs i d y lent opening left number these =
 pub sessions_over : (h h' : History) (xs : List SessionState) → h'.opening ≡ h.opening → AreSessionsOf h xs
     → AreSessionsOf h' xs
 sessions_over h h' xs same these = record { many = rw same these.many; numbered = these.numbered }
+
+-- a session that stopped for want of memory, and the desk with it, are as they were
+pub stopped_over_port : (first h h' last : History) (xs : List SessionState) (i a b w w' : ℕ) (d y : SessionState)
+    → h ≡ first → h'.opening ≡ h.opening → last ≡ h'
+    → HasStopped (desk_console a h w) (desk_console b h' w') (get_or xs i d) y
+    → (last ≡ first) × (slice_set xs i y ≡ xs)
+stopped_over_port first h h' last xs i a b w w' d y lent opening left stopped =
+    let made : h'.made ≡ h.made = same_Some _ _ stopped.none.behind in
+    let same : h' ≡ h = λ k. record { opening = opening k; made = made k } in
+    (left ∙ same ∙ lent, ap (slice_set xs i) stopped.stays ∙ set-get_or xs i d)

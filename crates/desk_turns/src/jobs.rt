@@ -1,6 +1,6 @@
 //! The jobs: sessions over a desk, and the order in which they and the loop go on.
 
-ghost use Rattle.std.specs.Prelude.{◌≡◌, ◌<◌, ◌^◌, [], true, length, map, IfOk, OnOk};
+ghost use Rattle.std.specs.Prelude.{◌≡◌, ◌<◌, ◌^◌, [], true, length, map, IfOk, OnOk, OnErr};
 ghost use Rattle.std.specs.List.{All};
 ghost use Rattle.cm_document.specs.declared.call.Call.TheVariants as call;
 ghost use Rattle.cm_document.specs.declared.document.Document.{Document};
@@ -102,7 +102,8 @@ impl<C: Controller> RunningJob<C> {
     /// The loop begins the cycle of this number, if it can.
     #[tactic(auto, unfolding(cm_model::specs::Scheduled::looped))]
     pub(crate) fn begin(&mut self, alloc: Global, number: u64) -> Result<(), Memory>
-        ensures { OnOk result (GoesOn (looped (call.Begin number)) self.old self.new) }
+        ensures moved { OnOk result (GoesOn (looped (call.Begin number)) self.old self.new) }
+        ensures kept { OnErr result (self.new ≡ self.old) }
     {
         if self.can_begin(number) {
             let flight = self.desk.begin(alloc)?;
@@ -172,9 +173,10 @@ impl<C: Controller> RunningJob<C> {
     }
 
     /// The loop makes its next call, if it has one left: the end of the cycle that is aloft, else the begin of the next
-    /// one, and behind the last the close.
+    /// one, and behind the last the close. Want of memory changes nothing.
     pub fn go_on(&mut self, alloc: Global) -> Result<(), Memory>
-        ensures { OnOk result (GoesOn looped_on self.old self.new) }
+        ensures moved { OnOk result (GoesOn looped_on self.old self.new) }
+        ensures kept { OnErr result (self.new ≡ self.old) }
     {
         let cycle = self.ended();
         if self.desk.aloft() {
@@ -195,9 +197,10 @@ impl<C: Controller> RunningJob<C> {
         are_ended(self.sessions.as_slice()) && self.desk.closed()
     }
 
-    /// A turn, if it can be made.
+    /// A turn, if it can be made. Want of memory changes nothing.
     pub fn turn(&mut self, alloc: Global, turn: &Turn) -> Result<(), Memory>
-        ensures { OnOk result (GoesOn (turned turn.now) self.old self.new) }
+        ensures moved { OnOk result (GoesOn (turned turn.now) self.old self.new) }
+        ensures kept { OnErr result (self.new ≡ self.old) }
     {
         let cycle = self.ended();
         match *turn {
@@ -302,6 +305,7 @@ fn step<C: Controller>(
         ≡ turned (Turn.Step who) (progress_of (record { desk = desk.old; sessions = sessions.old }))) }
     ensures desk { IsSameDesk desk.old desk.new }
     ensures numbered { AreSessionsOf desk.new sessions.new }
+    ensures kept { OnErr result ((desk.new ≡ desk.old) × (sessions.new ≡ sessions.old)) }
 {
     if who >= desk.sessions() {
         return Ok(());

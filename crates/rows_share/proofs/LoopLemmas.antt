@@ -1,7 +1,7 @@
 -- How the loop stands after each call of it, as its pass has then seen.
 use Rattle.std.proofs.Common.{◌≡◌, ℕ, ◌+◌, Bool, true, false, List, Option}
 use Rattle.std.proofs.Common.{Some, None, refl, sym, ap, ap₂, subst, ◌∙◌, arith}
-use Rattle.std.specs.Prelude.{◌≢◌, ◌-◌, IfSome}
+use Rattle.std.specs.Prelude.{◌≢◌, ◌-◌, is_some, IfSome}
 use mathlib.Core.List.{IsPrefix}
 use Rattle.cm_document.specs.declared.call.Call.{Call}
 use Rattle.cm_document.specs.declared.call.Call.TheVariants.{Begin, End, Close}
@@ -17,9 +17,10 @@ use Rattle.cm_model.specs.Boundary.{begin_reply, close_reply}
 use Rattle.cm_model.specs.Sessions.{entries_by}
 use Rattle.cm_model.specs.declared.entry.Entry.{Entry}
 use Rattle.cm_model.specs.declared.reply.Reply.TheVariants as reply
-use Rattle.cm_desk.specs.Desk.{History, Grows, GoesOnWithoutLoop, IsOut, MayLand, now_of}
+use Rattle.cm_desk.specs.Desk.{History, Grows, GoesOnWithoutLoop, IsAtHand, IsOut, now_of}
+use Rattle.cm_desk.proofs.BegunLemmas.{computed_at_hand, out_at_hand}
 use Rattle.cm_desk.proofs.LoopLemmas.{begins_where, closes_where, stands_alike}
-use Rattle.rt_flight.specs.Flights.{FlightFacts}
+use Rattle.rt_flight.specs.Flights.{FlightFacts, IsAloft, IsComputed}
 use Rattle.turn_lock.specs.declared.kept.Kept.{Ghosts}
 use Rattle.turn_lock.specs.declared.lock.TurnLock.{TurnLock}
 use Rattle.turn_lock.specs.declared.pass.TurnPass.{TurnPass}
@@ -118,6 +119,16 @@ closes_so now stand so home unclosed =
 pub at_hand : (P : FlightFacts → Type 0) (o : Option FlightFacts) (f : FlightFacts) → o ≡ Some f → IfSome o P → P f
 at_hand P o f is all = subst (λ (k : Option FlightFacts). IfSome k P) is all
 
+not_at_hand : (P : FlightFacts → Type 0) (o : Option FlightFacts) → o ≡ None → IfSome o P
+not_at_hand P o none = subst (λ (k : Option FlightFacts). IfSome k P) (sym none) tt
+
+-- what is aloft is not home
+aloft_not_home : (o : Option FlightFacts) → true ≡ false → o ≡ None
+aloft_not_home o both = cc
+
+both_none : (o : Option FlightFacts) (f g : FlightFacts) → o ≡ Some f → o ≡ None → Some g ≡ None
+both_none o f g some none = cc
+
 -- ---- Turns of its pass
 
 module _ {K : Type 0} {g : Ghosts K Entry State} (lock : TurnLock K Entry State) (first : History) where
@@ -126,10 +137,10 @@ module _ {K : Type 0} {g : Ghosts K Entry State} (lock : TurnLock K Entry State)
   still_loop p q found is turn = record { at = turn.still; loop = turn.number ∙ is.loop }
 
   -- where no entry is made the loop stands as it stood
-  pub stays_loop : (p q : TurnPass K Entry State g) (stand : Stand) (out computed : Option FlightFacts)
-      → IsLoopOf lock first p stand out computed → Stays lock first p q
-      → IsLoopOf lock first q stand None None
-  stays_loop p q stand out computed is stays =
+  pub stays_loop : (p q : TurnPass K Entry State g) (stand : Stand) (flight : Option FlightFacts)
+      → IsLoopOf lock first p stand flight → stand.aloft ≡ false → Stays lock first p q
+      → IsLoopOf lock first q stand flight
+  stays_loop p q stand flight is home stays =
       let turn = stays.turn in
       let seen : (view q).seen ≡ stays.found.made = ap (λ (h : History). h.made) stays.none in
       let goes_on : GoesOnWithoutLoop (history_of first.opening p) (history_of first.opening q) = record {
@@ -144,15 +155,14 @@ module _ {K : Type 0} {g : Ghosts K Entry State} (lock : TurnLock K Entry State)
       record {
         looping = still_loop p q stays.found is.looping turn;
         stands = stands_so (stand_of first p) (stand_of first q) stand stands.loop is.stands;
-        out_is = tt;
-        computed_is = tt;
+        home = is.home;
+        at_hand = not_at_hand (IsAtHand (history_of first.opening q)) flight (is.home home);
       }
 
-  pub begins_loop : (p q : TurnPass K Entry State g) (stand : Stand) (out computed : Option FlightFacts)
-      (f : FlightFacts) → IsLoopOf lock first p stand out computed → BeginsThere lock first p q
-      → IsOut (history_of first.opening q) f
-      → IsLoopOf lock first q (record { left = stand.left; aloft = true; closed = stand.closed }) (Some f) None
-  begins_loop p q stand out computed f is begins flies =
+  pub begins_loop : (p q : TurnPass K Entry State g) (stand : Stand) (flight now : Option FlightFacts) (f : FlightFacts)
+      → IsLoopOf lock first p stand flight → BeginsThere lock first p q → IsOut (history_of first.opening q) f
+      → now ≡ Some f → IsLoopOf lock first q (record { left = stand.left; aloft = true; closed = stand.closed }) now
+  begins_loop p q stand flight now f is begins flies now_is =
       let same = begins.stands.loop in
       record {
         looping = still_loop p q begins.found is.looping begins.turn;
@@ -162,15 +172,30 @@ module _ {K : Type 0} {g : Ghosts K Entry State} (lock : TurnLock K Entry State)
             (subst (λ (n : ℕ). Grows begins.found (history_of first.opening q) p.number (Begin n)
             (begin_reply (now_of begins.found))) (sym same.ended) begins.grows)
             (stands_so (stand_of first p) (now_of begins.found) stand same is.stands);
-        out_is = flies;
-        computed_is = tt;
+        home = aloft_not_home now;
+        at_hand = subst (λ (o : Option FlightFacts). IfSome o (IsAtHand (history_of first.opening q))) (sym now_is)
+            (out_at_hand (history_of first.opening q) f flies);
       }
 
-  pub lands_loop : (p q : TurnPass K Entry State g) (stand : Stand) (out computed : Option FlightFacts) (left : ℕ)
-      (gone : Option FlightFacts) → IsLoopOf lock first p stand out computed
+  -- the flight that was out is computed
+  pub computes_loop : (p : TurnPass K Entry State g) (stand : Stand) (flight : Option FlightFacts) (f g : FlightFacts)
+      → IsLoopOf lock first p stand flight → flight ≡ Some f → f.outcome ≡ None
+      → ((s : State) → IsAloft s f → IsComputed s g) → is_some g.outcome ≡ true
+      → IsLoopOf lock first p stand (Some g)
+  computes_loop p stand flight f g is same none made some =
+      let at = at_hand (IsAtHand (history_of first.opening p)) flight f same is.at_hand in
+      record {
+        looping = is.looping;
+        stands = is.stands;
+        home = λ home. both_none flight f g same (is.home home);
+        at_hand = computed_at_hand (history_of first.opening p) f g (at.before none) made some;
+      }
+
+  pub lands_loop : (p q : TurnPass K Entry State g) (stand : Stand) (flight : Option FlightFacts) (left : ℕ)
+      (gone : Option FlightFacts) → IsLoopOf lock first p stand flight
       → LandsThere lock first p q → left ≡ stand.left - 1 → gone ≡ None
-      → IsLoopOf lock first q (record { left = left; aloft = false; closed = stand.closed }) None gone
-  lands_loop p q stand out computed left gone is lands less none =
+      → IsLoopOf lock first q (record { left = left; aloft = false; closed = stand.closed }) gone
+  lands_loop p q stand flight left gone is lands less none =
       let same = lands.stands.loop in
       let told = reply.Cycle (cycle lands.begun).happened in
       record {
@@ -182,19 +207,19 @@ module _ {K : Type 0} {g : Ghosts K Entry State} (lock : TurnLock K Entry State)
             (subst (λ (n : ℕ). Grows lands.found (history_of first.opening q) p.number (End n) told) (sym same.ended)
             lands.grows)
             (stands_so (stand_of first p) (now_of lands.found) stand same is.stands));
-        out_is = tt;
-        computed_is = subst (λ (o : Option FlightFacts). IfSome o (MayLand (history_of first.opening q))) (sym none) tt;
+        home = λ home. none;
+        at_hand = not_at_hand (IsAtHand (history_of first.opening q)) gone none;
       }
 
-  pub closes_loop : (p q : TurnPass K Entry State g) (stand : Stand) (out computed : Option FlightFacts)
-      → IsLoopOf lock first p stand out computed → ClosesThere lock first p q
-      → IsLoopOf lock first q (record { left = stand.left; aloft = stand.aloft; closed = true }) None None
-  closes_loop p q stand out computed is closes = record {
+  pub closes_loop : (p q : TurnPass K Entry State g) (stand : Stand) (flight : Option FlightFacts)
+      → IsLoopOf lock first p stand flight → stand.aloft ≡ false → ClosesThere lock first p q
+      → IsLoopOf lock first q (record { left = stand.left; aloft = stand.aloft; closed = true }) flight
+  closes_loop p q stand flight is home closes = record {
     looping = still_loop p q closes.found is.looping closes.turn;
     stands =
         closed_so closes.found (history_of first.opening q) p.number (close_reply (now_of closes.found)) stand.left
         stand.aloft stand.closed closes.grows
         (stands_so (stand_of first p) (now_of closes.found) stand closes.stands.loop is.stands);
-    out_is = tt;
-    computed_is = tt;
+    home = is.home;
+    at_hand = not_at_hand (IsAtHand (history_of first.opening q)) flight (is.home home);
   }

@@ -8,7 +8,7 @@ use Rattle.std.proofs.lemmas.List.{get_or-map, length-map}
 use Rattle.std.proofs.lemmas.List.Elements.{All-cons, All-tail, All-contains}
 use Rattle.cm_document.specs.declared.call.Call.{Call}
 use Rattle.cm_document.specs.declared.description.Description.{Description}
-use Rattle.cm_desk.specs.Desk.{History, IsOut, MayLand, now_of}
+use Rattle.cm_desk.specs.Desk.{History, IsAtHand, now_of}
 use Rattle.cm_model.specs.State.{State, boot}
 use Rattle.cm_model.specs.declared.blanks.Blanks.{Blanks}
 use Rattle.cm_model.specs.declared.cause.Outcome.{Outcome}
@@ -128,19 +128,18 @@ module _ {K : Type 0} {g : Ghosts K Entry State} (lock : TurnLock K Entry State)
   pub loop_at_boot : (d : Description) (blanks : Blanks) (sessions : ℕ) (desk : History)
       (looping : TurnPass K Entry State g) (passes : List (TurnPass K Entry State g))
       → desk ≡ record { opening = boot d blanks sessions; made = [] } → Shares desk lock first looping passes
-      → (p : TurnPass K Entry State g) (stand : Stand) (out computed : Option FlightFacts) → p ≡ looping
-      → stand ≡ record { left = d.cycles; aloft = false; closed = false } → out ≡ None → computed ≡ None
-      → IsLoopOf lock first p stand out computed
-  loop_at_boot d blanks sessions desk looping passes booted shares p stand out computed same so none not_computed =
+      → (p : TurnPass K Entry State g) (stand : Stand) (flight : Option FlightFacts) → p ≡ looping
+      → stand ≡ record { left = d.cycles; aloft = false; closed = false } → flight ≡ None
+      → IsLoopOf lock first p stand flight
+  loop_at_boot d blanks sessions desk looping passes booted shares p stand flight same so none =
       record {
         looping = subst (λ (q : TurnPass K Entry State g). IsLoopPass lock first q) (sym same) shares.looping_is;
         stands =
             subst (λ (q : TurnPass K Entry State g). StandsSo (stand_of first q) stand) (sym same)
             (subst (λ (st : Stand). StandsSo (stand_of first looping) st) (sym so)
             (stands_at_boot d blanks sessions desk looping passes booted shares));
-        out_is = subst (λ (o : Option FlightFacts). IfSome o (IsOut (history_of first.opening p))) (sym none) tt;
-        computed_is =
-            subst (λ (o : Option FlightFacts). IfSome o (MayLand (history_of first.opening p))) (sym not_computed) tt;
+        home = λ home. none;
+        at_hand = subst (λ (o : Option FlightFacts). IfSome o (IsAtHand (history_of first.opening p))) (sym none) tt;
       }
 
   -- ---- It comes home
@@ -176,15 +175,15 @@ module _ {K : Type 0} {g : Ghosts K Entry State} (lock : TurnLock K Entry State)
   }
 
   -- the pass of a loop that has closed, with those of all sessions in order, are all
-  pub are_handed_in : (p : TurnPass K Entry State g) (stand : Stand) (out computed : Option FlightFacts)
+  pub are_handed_in : (p : TurnPass K Entry State g) (stand : Stand) (flight : Option FlightFacts)
       (passes shown : List (TurnPass K Entry State g)) (count : ℕ)
       → seats_of lock ≡ first.opening.sessions + 1 → first.opening.sessions ≡ count
-      → IsLoopOf lock first p stand out computed → stand.closed ≡ true → All (IsSessionPass lock first) passes
+      → IsLoopOf lock first p stand flight → stand.closed ≡ true → All (IsSessionPass lock first) passes
       → shown ≡ passes
       → (length shown ≡ count)
       × ((k : ℕ) (d : TurnPass K Entry State g) → k < length shown → (get_or shown k d).number ≡ k)
       → AreHandedIn lock first p passes
-  are_handed_in p stand out computed passes shown count seats sessions is closed each same shown_so =
+  are_handed_in p stand flight passes shown count seats sessions is closed each same shown_so =
       let numbers : (length passes ≡ count)
       × ((k : ℕ) (d : TurnPass K Entry State g) → k < length passes → (get_or passes k d).number ≡ k) =
       subst (λ (ps : List (TurnPass K Entry State g)). (length ps ≡ count)

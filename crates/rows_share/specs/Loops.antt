@@ -1,6 +1,6 @@
 -- The loop at a shared desk, with what its owner keeps beside its pass.
-use Rattle.std.specs.Prelude.{◌≡◌, ◌-◌, Option, IfSome}
-use Rattle.cm_desk.specs.Desk.{History, IsOut, MayLand}
+use Rattle.std.specs.Prelude.{◌≡◌, ◌-◌, false, Option, None, IfSome}
+use Rattle.cm_desk.specs.Desk.{History, IsAtHand}
 use Rattle.cm_model.specs.State.{State}
 use Rattle.cm_model.specs.declared.entry.Entry.{Entry}
 use Rattle.rt_flight.specs.Flights.{FlightFacts}
@@ -18,14 +18,14 @@ pub record StandsSo (now : State) (stand : Stand) : Type 0 where
   pub closed : stand.closed ≡ now.closed
 
 module _ {K : Type 0} {g : Ghosts K Entry State} where
-  -- It is the pass of the loop, which has seen that the loop stands so; and a flight that is at hand is that of the
-  -- cycle which the pass has seen begin, out or so that it may land.
+  -- It is the pass of the loop, which has seen that the loop stands so. A flight that is at hand is that of the cycle
+  -- which the pass has seen begin, and none is at hand if no cycle is aloft.
   pub record IsLoopOf (lock : TurnLock K Entry State) (first : History) (p : TurnPass K Entry State g) (stand : Stand)
-      (out computed : Option FlightFacts) : Type 0 where
+      (flight : Option FlightFacts) : Type 0 where
     pub looping : IsLoopPass lock first p
     pub stands : StandsSo (stand_of first p) stand
-    pub out_is : IfSome out (IsOut (history_of first.opening p))
-    pub computed_is : IfSome computed (MayLand (history_of first.opening p))
+    pub home : stand.aloft ≡ false → flight ≡ None
+    pub at_hand : IfSome flight (IsAtHand (history_of first.opening p))
 
   -- There are two sessions, and these are passes of sessions.
   pub record AreSessions (lock : TurnLock K Entry State) (first : History) (one other : TurnPass K Entry State g) :

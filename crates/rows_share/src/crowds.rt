@@ -163,8 +163,7 @@ fn judge_end<C: Controller>(
 ) -> Result<(), Fail>
     requires sessions { All (IsSessionPass desk.lock desk.at_first.value) passes.items }
     requires count { desk.at_first.value.opening.sessions ≡ 8 }
-    requires looping { IsLoopOf desk.lock desk.at_first.value looping.pass.pass looping.stand looping.out
-        looping.computed }
+    requires looping { IsLoopOf desk.lock desk.at_first.value looping.pass.pass looping.stand looping.flight }
 {
     let Some(book) = book_of(desk, looping, passes, SESSIONS) else {
         return Err(Fail::new("the loop did not close, or a pass is missing"));

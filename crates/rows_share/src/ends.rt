@@ -20,8 +20,7 @@ pub fn book_of<C: Controller>(
 ) -> Option<Book<C>>
     requires sessions { All (IsSessionPass desk.lock desk.at_first.value) passes.items }
     requires count { desk.at_first.value.opening.sessions ≡ sessions }
-    requires looping { IsLoopOf desk.lock desk.at_first.value looping.pass.pass looping.stand looping.out
-        looping.computed }
+    requires looping { IsLoopOf desk.lock desk.at_first.value looping.pass.pass looping.stand looping.flight }
 {
     let Looping { pass, stand, .. } = looping;
     if stand.closed && are_numbered(passes.as_slice(), sessions) {

@@ -88,8 +88,7 @@ fn play<R: Wait, C: Controller>(
 pub fn at_boot<C: Controller>(pass: LoopPass<C>, left: u64) -> Looping<C>
     ensures pass { result.pass.pass ≡ pass.pass }
     ensures stand { result.stand ≡ record { left = left; aloft = false; closed = false } }
-    ensures out { result.out ≡ None }
-    ensures computed { result.computed ≡ None }
+    ensures flight { result.flight ≡ None }
 {
     Looping {
         pass,
@@ -98,8 +97,7 @@ pub fn at_boot<C: Controller>(pass: LoopPass<C>, left: u64) -> Looping<C>
             aloft: false,
             closed: false,
         },
-        out: None,
-        computed: None,
+        flight: None,
     }
 }
 
@@ -127,11 +125,12 @@ fn play_on<R: Wait, C: Controller>(
     history: &str,
 ) -> Result<(), Fail>
     requires sessions { AreSessions desk.lock desk.at_first.value sessions.first sessions.second }
-    requires looping { IsLoopOf desk.lock desk.at_first.value looping.pass.pass looping.stand looping.out
-        looping.computed }
+    requires looping { IsLoopOf desk.lock desk.at_first.value looping.pass.pass looping.stand looping.flight }
 {
-    hold_lines(rt, alloc, &desk, &mut sessions, &mut looping, calls)?;
-    hold_end(alloc, desk, sessions, looping, history)
+    let held = hold_lines(rt, alloc, &desk, &mut sessions, &mut looping, calls);
+    let ended = hold_end(alloc, desk, sessions, looping, history);
+    held?;
+    ended
 }
 
 /// Fails at the first of these calls of which something else is told than is wanted.
@@ -145,10 +144,10 @@ fn hold_lines<R: Wait, C: Controller>(
 ) -> Result<(), Fail>
     requires sessions { AreSessions desk.now.lock desk.now.at_first.value sessions.old.first sessions.old.second }
     requires looping { IsLoopOf desk.now.lock desk.now.at_first.value looping.old.pass.pass looping.old.stand
-        looping.old.out looping.old.computed }
+        looping.old.flight }
     ensures sessions { AreSessions desk.now.lock desk.now.at_first.value sessions.new.first sessions.new.second }
     ensures looping { IsLoopOf desk.now.lock desk.now.at_first.value looping.new.pass.pass looping.new.stand
-        looping.new.out looping.new.computed }
+        looping.new.flight }
 {
     for line in calls.lines() {
         hold_line(rt, alloc, desk, sessions, looping, line)?;
@@ -166,10 +165,10 @@ fn hold_line<R: Wait, C: Controller>(
 ) -> Result<(), Fail>
     requires sessions { AreSessions desk.now.lock desk.now.at_first.value sessions.old.first sessions.old.second }
     requires looping { IsLoopOf desk.now.lock desk.now.at_first.value looping.old.pass.pass looping.old.stand
-        looping.old.out looping.old.computed }
+        looping.old.flight }
     ensures sessions { AreSessions desk.now.lock desk.now.at_first.value sessions.new.first sessions.new.second }
     ensures looping { IsLoopOf desk.now.lock desk.now.at_first.value looping.new.pass.pass looping.new.stand
-        looping.new.out looping.new.computed }
+        looping.new.flight }
 {
     let (call, want) = halves(line, " => ")?;
     let mut told = String::new(alloc);
@@ -188,10 +187,10 @@ fn turn<R: Wait, C: Controller>(
     word: &str,
     told: &mut String,
 ) -> Result<(), Fail>
-    requires { IsLoopOf desk.now.lock desk.now.at_first.value looping.old.pass.pass looping.old.stand looping.old.out
-        looping.old.computed }
-    ensures { IsLoopOf desk.now.lock desk.now.at_first.value looping.new.pass.pass looping.new.stand looping.new.out
-        looping.new.computed }
+    requires { IsLoopOf desk.now.lock desk.now.at_first.value looping.old.pass.pass looping.old.stand
+        looping.old.flight }
+    ensures { IsLoopOf desk.now.lock desk.now.at_first.value looping.new.pass.pass looping.new.stand
+        looping.new.flight }
 {
     let made = match word {
         "begin" => begin_again(rt, desk, looping)?,
@@ -236,18 +235,16 @@ fn hold_end<C: Controller>(
     history: &str,
 ) -> Result<(), Fail>
     requires sessions { AreSessions desk.lock desk.at_first.value sessions.first sessions.second }
-    requires looping { IsLoopOf desk.lock desk.at_first.value looping.pass.pass looping.stand looping.out
-        looping.computed }
+    requires looping { IsLoopOf desk.lock desk.at_first.value looping.pass.pass looping.stand looping.flight }
 {
     let Sessions { first, second } = sessions;
     let passes = in_order(alloc, first, second)?;
     let Some(book) = book_of(desk, looping, passes, SESSIONS) else {
         return hold_told(alloc, "finish", CANNOT, history);
     };
-    let mut told = String::new(alloc);
-    push_history(alloc, &mut told, &book.history)?;
+    let told = told_of(alloc, &book.history);
     drop(book);
-    hold_told(alloc, "finish", told.as_str(), history)
+    hold_told(alloc, "finish", told?.as_str(), history)
 }
 
 /// Both passes, in a row.
@@ -264,9 +261,11 @@ fn in_order<C: Controller>(
     Ok(row)
 }
 
-fn push_history(alloc: Global, told: &mut String, history: &[Entry]) -> Result<(), Fail> {
+/// What is told of a history: all entries.
+fn told_of(alloc: Global, history: &[Entry]) -> Result<String, Fail> {
+    let mut told = String::new(alloc);
     for entry in history {
-        push_entry(alloc, told, entry)?;
+        push_entry(alloc, &mut told, entry)?;
     }
-    Ok(())
+    Ok(told)
 }

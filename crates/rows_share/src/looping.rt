@@ -13,8 +13,7 @@ use std::sync::Wait;
 use std::test::Fail;
 use turn_lock::Kept;
 
-/// The pass of the loop, where the loop stands, and the flight that is at hand: one that is out, or one that is
-/// computed.
+/// The pass of the loop, where the loop stands, and the flight that is at hand while a cycle is aloft.
 #[derive(Drop)]
 pub struct Looping<C: Controller>
 where
@@ -22,8 +21,7 @@ where
 {
     pub pass: LoopPass<C>,
     pub stand: Stand,
-    pub out: Option<Flight<C>>,
-    pub computed: Option<Flight<C>>,
+    pub flight: Option<Flight<C>>,
 }
 
 /// The next cycle begins, if one can.
@@ -33,51 +31,54 @@ pub fn begin<R: Wait, C: Controller>(
     desk: &SharedDesk<C>,
     looping: &mut Looping<C>,
 ) -> Result<bool, Memory>
-    requires { IsLoopOf desk.now.lock desk.now.at_first.value looping.old.pass.pass looping.old.stand looping.old.out
-        looping.old.computed }
-    ensures { IsLoopOf desk.now.lock desk.now.at_first.value looping.new.pass.pass looping.new.stand looping.new.out
-        looping.new.computed }
+    requires { IsLoopOf desk.now.lock desk.now.at_first.value looping.old.pass.pass looping.old.stand
+        looping.old.flight }
+    ensures { IsLoopOf desk.now.lock desk.now.at_first.value looping.new.pass.pass looping.new.stand
+        looping.new.flight }
 {
     let stand = looping.stand;
     if stand.aloft || stand.closed || stand.left == 0 {
         return Ok(false);
     }
-    looping.out = None;
-    looping.computed = None;
     let flight = desk.begin(rt, &mut looping.pass)?;
     looping.stand.aloft = true;
-    looping.out = Some(flight);
+    drop(looping.flight.replace(flight));
     Ok(true)
 }
 
-/// The flight that is out is computed, if there is one.
-#[tactic(auto, using(cm_desk::proofs::BegunLemmas::may_land, crate::proofs::LoopLemmas::at_hand))]
+/// The flight at hand is computed, if there is one that is not.
+#[tactic(auto, using(crate::proofs::LoopLemmas::computes_loop))]
 pub fn compute<C: Controller>(desk: &SharedDesk<C>, looping: &mut Looping<C>) -> bool
-    requires { IsLoopOf desk.now.lock desk.now.at_first.value looping.old.pass.pass looping.old.stand looping.old.out
-        looping.old.computed }
-    ensures { IsLoopOf desk.now.lock desk.now.at_first.value looping.new.pass.pass looping.new.stand looping.new.out
-        looping.new.computed }
+    requires { IsLoopOf desk.now.lock desk.now.at_first.value looping.old.pass.pass looping.old.stand
+        looping.old.flight }
+    ensures { IsLoopOf desk.now.lock desk.now.at_first.value looping.new.pass.pass looping.new.stand
+        looping.new.flight }
 {
-    let Some(mut flight) = looping.out.take() else {
+    let Some(flight) = &mut looping.flight else {
         return false;
     };
+    if flight.started() {
+        return false;
+    }
     flight.compute();
-    looping.computed = Some(flight);
     true
 }
 
-/// The computed flight lands, if there is one.
+/// The flight at hand lands, if there is one that is computed.
 #[tactic(auto, using(crate::proofs::LoopLemmas::lands_loop, crate::proofs::LoopLemmas::at_hand))]
 pub fn land<R: Wait, C: Controller>(rt: &R, desk: &SharedDesk<C>, looping: &mut Looping<C>) -> bool
-    requires { IsLoopOf desk.now.lock desk.now.at_first.value looping.old.pass.pass looping.old.stand looping.old.out
-        looping.old.computed }
-    ensures { IsLoopOf desk.now.lock desk.now.at_first.value looping.new.pass.pass looping.new.stand looping.new.out
-        looping.new.computed }
+    requires { IsLoopOf desk.now.lock desk.now.at_first.value looping.old.pass.pass looping.old.stand
+        looping.old.flight }
+    ensures { IsLoopOf desk.now.lock desk.now.at_first.value looping.new.pass.pass looping.new.stand
+        looping.new.flight }
 {
-    let Some(flight) = looping.computed.take() else {
+    let Some(flight) = looping.flight.take() else {
         return false;
     };
-    looping.out = None;
+    if !flight.computed() {
+        drop(looping.flight.replace(flight));
+        return false;
+    }
     desk.land(rt, &mut looping.pass, flight);
     looping.stand.aloft = false;
     looping.stand.left = looping.stand.left.saturating_sub(1);
@@ -87,16 +88,14 @@ pub fn land<R: Wait, C: Controller>(rt: &R, desk: &SharedDesk<C>, looping: &mut 
 /// The loop closes, if it can.
 #[tactic(auto, using(crate::proofs::LoopLemmas::closes_so, crate::proofs::LoopLemmas::closes_loop))]
 pub fn close<R: Wait, C: Controller>(rt: &R, desk: &SharedDesk<C>, looping: &mut Looping<C>) -> bool
-    requires { IsLoopOf desk.now.lock desk.now.at_first.value looping.old.pass.pass looping.old.stand looping.old.out
-        looping.old.computed }
-    ensures { IsLoopOf desk.now.lock desk.now.at_first.value looping.new.pass.pass looping.new.stand looping.new.out
-        looping.new.computed }
+    requires { IsLoopOf desk.now.lock desk.now.at_first.value looping.old.pass.pass looping.old.stand
+        looping.old.flight }
+    ensures { IsLoopOf desk.now.lock desk.now.at_first.value looping.new.pass.pass looping.new.stand
+        looping.new.flight }
 {
     if looping.stand.aloft || looping.stand.closed {
         return false;
     }
-    looping.out = None;
-    looping.computed = None;
     desk.close(rt, &mut looping.pass);
     looping.stand.closed = true;
     true
@@ -108,10 +107,10 @@ pub fn begin_again<R: Wait, C: Controller>(
     desk: &SharedDesk<C>,
     looping: &mut Looping<C>,
 ) -> Result<bool, Fail>
-    requires { IsLoopOf desk.now.lock desk.now.at_first.value looping.old.pass.pass looping.old.stand looping.old.out
-        looping.old.computed }
-    ensures { IsLoopOf desk.now.lock desk.now.at_first.value looping.new.pass.pass looping.new.stand looping.new.out
-        looping.new.computed }
+    requires { IsLoopOf desk.now.lock desk.now.at_first.value looping.old.pass.pass looping.old.stand
+        looping.old.flight }
+    ensures { IsLoopOf desk.now.lock desk.now.at_first.value looping.new.pass.pass looping.new.stand
+        looping.new.flight }
 {
     for _ in 0..MOST_TRIES {
         if let Ok(began) = begin(rt, desk, looping) {

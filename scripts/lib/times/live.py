@@ -10,6 +10,7 @@ is proved and built first.
 
 import re
 import resource
+import statistics
 import subprocess
 import tempfile
 from pathlib import Path
@@ -65,9 +66,14 @@ def tell_waiting(program, document, alone):
     )
     part = (sum(busy) - sum(busy_alone)) / sum(took)
     print(
-        f"On two processors a live run of `bare` took {max(took_alone) * 1000:.0f} ms at most, and "
-        f"{max(took) * 1000:.0f} ms with eight sessions that wait for its\nlast cycle. These took {part:.2f} of a processor."
+        f"On two processors a live run of `bare` took {in_ms(took_alone)}. With eight sessions that wait for\n"
+        f"its last cycle it took {in_ms(took)}, and they took {part:.2f} of a processor."
     )
+
+
+def in_ms(times):
+    """Returns the median and the greatest of these times, in words."""
+    return f"{statistics.median(times) * 1000:.0f} ms in the median and {max(times) * 1000:.0f} ms at most"
 
 
 def of_callers(bench):

@@ -1,6 +1,6 @@
 use Rattle.std.proofs.Common.{rules, ap, arith}
 use Rattle.desk_turns.specs.Ports.{DeskGround}
-use Rattle.desk_turns.proofs.NumberLemmas.{advanced-who, sessions_over_port}
+use Rattle.desk_turns.proofs.NumberLemmas.{advanced-who, sessions_over_port, stopped_over_port}
 use Rattle.desk_turns.proofs.SettleLemmas.{step_over}
 use Rattle.desk_turns.proofs.jobs.step.Goals as goal
 
@@ -25,3 +25,12 @@ returns-clause-numbered g c =
     c.args.sessions.now c.args.who c.index-sessions-who.result c.advance.new.self c.over-port.ensures.desk opening
     (search rules)
     (advanced-who c.in_ok-advance.field-0 _ _ _ c.advance.new.self c.in_ok-advance.ensures.advanced) c.requires
+
+-- where memory ran out nothing changed
+pub returns-in_err-advance-clause-kept : goal.returns-in_err-advance-clause-kept
+returns-in_err-advance-clause-kept g c =
+    let opening = ap (λ (k : DeskGround). k.opening) c.in_err-advance.ensures.still in
+    stopped_over_port c.args.desk.now c.over-port.result.desk.now c.advance.new.port.desk.now _ c.args.sessions.now
+    c.args.who c.over-port.result.who c.advance.new.port.who c.over-port.result.waited c.advance.new.port.waited
+    c.index-sessions-who.result c.advance.new.self c.over-port.ensures.desk opening (search rules)
+    c.in_err-advance.ensures.kept

@@ -11,4 +11,4 @@ begin-requires g c =
     (subst (λ (x : Description). c.at_boot-looping.result.stand
     ≡ record { left = x.cycles; aloft = false; closed = false }) c.description.ensures.same
     c.at_boot-looping.ensures.stand)
-    c.at_boot-looping.ensures.out c.at_boot-looping.ensures.computed
+    c.at_boot-looping.ensures.flight

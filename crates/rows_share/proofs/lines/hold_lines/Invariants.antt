@@ -5,6 +5,6 @@ use Rattle.rows_share.proofs.lines.hold_lines.Given as goal
 abbrev pub invariant-loop-line : goal.invariant-loop-line
 invariant-loop-line g l = record {
   sessions : AreSessions l.desk.lock l.desk.at_first.value l.sessions.first l.sessions.second;
-  looping : IsLoopOf l.desk.lock l.desk.at_first.value l.looping.pass.pass l.looping.stand l.looping.out
-      l.looping.computed;
+  looping : IsLoopOf l.desk.lock l.desk.at_first.value l.looping.pass.pass l.looping.stand
+      l.looping.flight;
 }

@@ -7,8 +7,8 @@ use Rattle.desk_turns.proofs.JobLemmas.{begin_number, begin_waits, loop_made, fl
 use Rattle.desk_turns.proofs.jobs.RunningJob.begin.Goals as goal
 
 -- the cycle that begins has the number that was asked for,
-pub returns-in_ok-flight : goal.returns-in_ok-flight
-returns-in_ok-flight g c =
+pub returns-in_ok-flight-clause-moved : goal.returns-in_ok-flight-clause-moved
+returns-in_ok-flight-clause-moved g c =
     let can = rw (← c.self.view_is) at (sym c.can_begin.ensures ∙ c.if-can_begin.true) in
     let number = begin_number (now_of c.self.inside.desk) c.args.number can in
     rw (← c.self.view_is) (loop_made (Begin c.args.number) _ _ _ (rw number at c.in_ok-flight.ensures.made) refl)
@@ -23,5 +23,5 @@ invariant_of-self-then-can_begin g c = (
 )
 
 -- it cannot begin
-pub returns-else-can_begin : goal.returns-else-can_begin
-returns-else-can_begin g c = begin_waits c.args.number c.args.self.now (sym c.can_begin.ensures ∙ c.if-can_begin.false)
+pub returns-else-can_begin-clause-moved : goal.returns-else-can_begin-clause-moved
+returns-else-can_begin-clause-moved g c = begin_waits c.args.number c.args.self.now (sym c.can_begin.ensures ∙ c.if-can_begin.false)
