@@ -1,6 +1,7 @@
 //! The jobs: sessions over a desk, and the order in which they and the loop go on.
 
 ghost use Rattle.std.specs.Prelude.{◌≡◌, ◌<◌, ◌^◌, [], true, length, map, IfOk, OnOk, OnErr};
+ghost use Rattle.std.specs.Prelude.{MatchResult};
 ghost use Rattle.std.specs.List.{All};
 ghost use Rattle.cm_document.specs.declared.call.Call.TheVariants as call;
 ghost use Rattle.cm_document.specs.declared.document.Document.{Document};
@@ -300,12 +301,12 @@ fn step<C: Controller>(
     desk: &mut Desk<C>,
 ) -> Result<(), Memory>
     requires { AreSessionsOf desk.old sessions.old }
-    ensures stepped { OnOk result
-        (progress_of (record { desk = desk.new; sessions = sessions.new })
-        ≡ turned (Turn.Step who) (progress_of (record { desk = desk.old; sessions = sessions.old }))) }
+    ensures stepped { MatchResult result
+        (λ _. progress_of (record { desk = desk.new; sessions = sessions.new })
+        ≡ turned (Turn.Step who) (progress_of (record { desk = desk.old; sessions = sessions.old })))
+        (λ _. (desk.new ≡ desk.old) × (sessions.new ≡ sessions.old)) }
     ensures desk { IsSameDesk desk.old desk.new }
     ensures numbered { AreSessionsOf desk.new sessions.new }
-    ensures kept { OnErr result ((desk.new ≡ desk.old) × (sessions.new ≡ sessions.old)) }
 {
     if who >= desk.sessions() {
         return Ok(());

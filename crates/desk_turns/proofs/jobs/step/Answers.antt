@@ -27,8 +27,8 @@ returns-clause-numbered g c =
     (advanced-who c.in_ok-advance.field-0 _ _ _ c.advance.new.self c.in_ok-advance.ensures.advanced) c.requires
 
 -- where memory ran out nothing changed
-pub returns-in_err-advance-clause-kept : goal.returns-in_err-advance-clause-kept
-returns-in_err-advance-clause-kept g c =
+pub returns-in_err-advance-clause-stepped : goal.returns-in_err-advance-clause-stepped
+returns-in_err-advance-clause-stepped g c =
     let opening = ap (λ (k : DeskGround). k.opening) c.in_err-advance.ensures.still in
     stopped_over_port c.args.desk.now c.over-port.result.desk.now c.advance.new.port.desk.now _ c.args.sessions.now
     c.args.who c.over-port.result.who c.advance.new.port.who c.over-port.result.waited c.advance.new.port.waited

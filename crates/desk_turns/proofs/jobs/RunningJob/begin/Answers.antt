@@ -24,4 +24,5 @@ invariant_of-self-then-can_begin g c = (
 
 -- it cannot begin
 pub returns-else-can_begin-clause-moved : goal.returns-else-can_begin-clause-moved
-returns-else-can_begin-clause-moved g c = begin_waits c.args.number c.args.self.now (sym c.can_begin.ensures ∙ c.if-can_begin.false)
+returns-else-can_begin-clause-moved g c =
+    begin_waits c.args.number c.args.self.now (sym c.can_begin.ensures ∙ c.if-can_begin.false)
