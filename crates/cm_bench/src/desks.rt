@@ -4,8 +4,8 @@ ghost use Rattle.std.specs.Prelude.{◌≡◌, [], IfOk};
 
 use cm_desk::Desk;
 use cm_document::Checked;
+use cm_stock::Stock;
 use ctl_mock::Mock;
-use ctl_rack::Stock;
 use desc_check::check;
 use desc_text::read_description;
 use std::alloc::Global;

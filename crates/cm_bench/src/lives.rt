@@ -21,7 +21,12 @@ where
     tell_cycles(rt, "none", ALONE, runs)?;
     tell_cycles(rt, "eight busy ones", BUSY, runs)?;
     tell_cycles(rt, "none, at 1 kHz", ALONE_IN_TIME, runs)?;
-    tell_cycles(rt, "eight that call in each cycle, at 1 kHz", BUSY_IN_TIME, runs)
+    tell_cycles(
+        rt,
+        "eight that call in each cycle, at 1 kHz",
+        BUSY_IN_TIME,
+        runs,
+    )
 }
 
 fn tell_cycles<R>(rt: &R, name: &str, work: Workload, runs: u64) -> anyhow::Result<()>

@@ -2,9 +2,9 @@
 
 use crate::watch::Stopwatch;
 use crate::working::{Working, blanks};
+use cm_stock::Stock;
 use cm_top::run;
 use ctl_mock::Mock;
-use ctl_rack::Stock;
 use fixed_num::Memory;
 use outside_io::{MemSink, MemSource, OpenGate};
 use std::alloc::Global;

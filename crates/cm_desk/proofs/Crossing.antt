@@ -43,7 +43,7 @@ use Rattle.cm_desk.specs.contracts.works.Works as Works
 use Rattle.cm_desk.specs.contracts.works.Works.TheInside as WorksInside
 use Rattle.cm_desk.specs.contracts.desk.Desk as Desk
 use Rattle.cm_desk.specs.contracts.desk.Desk.TheInside as DeskInside
-use Rattle.ctl_rack.proofs.stock.Stock.TheSendSync as stock
+use Rattle.cm_stock.proofs.stock.Stock.TheSendSync as stock
 use Rattle.request_plan.proofs.requests.Requests.TheSendSync as requests
 use Rattle.cm_document.proofs.checked.Checked.TheSendSync as checked
 use Rattle.iface_names.specs.contracts.name.Name as Name

@@ -14,7 +14,7 @@ use crate::start::{at_start, names_of};
 use cm_document::{Checked, CtlDesc};
 use cm_model::{Reply, Why};
 use cm_slots::{Slot, Slots};
-use ctl_rack::Stock;
+use cm_stock::Stock;
 use ctl_trait::Controller;
 use fixed_num::Memory;
 use iface_names::Name;

@@ -1,9 +1,9 @@
 //! What is asked, drawn over the program's stock.
 
+ghost use Rattle.cm_stock.specs.Stocks.{AreBlanks};
 ghost use Rattle.std.specs.Prelude.{◌≤◌, length};
 ghost use Rattle.cm_document.specs.declared.limits.TheConstants.{LONGEST_DOCUMENT};
 ghost use Rattle.cm_model.specs.Blanks.{blanks_of_each};
-ghost use Rattle.ctl_rack.specs.Stocks.{AreBlanks};
 ghost use Rattle.cm_program.specs.declared.stock.TheConstants.{BLANKS};
 
 use crate::made::draw_made;
@@ -11,9 +11,9 @@ use crate::traced::draw_traced;
 use crate::words::{DrawJob, Drawn};
 use cm_document::LONGEST_DOCUMENT;
 use cm_program::stock::BLANKS;
+use cm_stock::Stock;
 use cm_top::Status;
 use ctl_any::boxed_blanks;
-use ctl_rack::Stock;
 use ctl_trait::Controller;
 use fixed_num::Memory;
 use outside_io::{ReadFault, Sink, Source, read_whole};

@@ -1,14 +1,14 @@
 //! The program's stock, a box for each blank.
 
+ghost use Rattle.cm_stock.specs.Stocks.{AreBlanks};
 ghost use Rattle.std.specs.Prelude.{◌≡◌, map, string_bytes, IfOk, OnErr};
 ghost use Rattle.cm_top.specs.Calls.Run.{source_facts, sink_facts};
 ghost use Rattle.cm_model.specs.Blanks.{blanks_of_each};
-ghost use Rattle.ctl_rack.specs.Stocks.{AreBlanks};
 ghost use Rattle.cm_program.specs.Ran.{RanWords};
 
+use cm_stock::Stock;
 use cm_top::{Status, run};
 use ctl_any::boxed_blanks;
-use ctl_rack::Stock;
 use ctl_trait::Controller;
 use fixed_num::Memory;
 use outside_io::{OpenGate, Sink, Source, YieldPace};

@@ -6,7 +6,7 @@ use Rattle.std.proofs.lemmas.List.Elements.{All-nil, All-cons, All-head, All-tai
 use Rattle.cm_model.specs.Controllers.{IsBlank}
 use Rattle.cm_model.specs.declared.blanks.Blanks.{Blanks}
 use Rattle.cm_model.specs.declared.data.CtlData.{CtlData}
-use Rattle.ctl_rack.specs.Stocks.{counts_of, AreBlanks}
+use Rattle.cm_stock.specs.Stocks.{counts_of, AreBlanks}
 
 -- those with the data of blank ones are blank
 blank_alike : {A B : Type 0} (m : A → CtlData) (n : B → CtlData) (xs : List A) (ys : List B) → map m xs ≡ map n ys

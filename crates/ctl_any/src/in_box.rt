@@ -1,8 +1,8 @@
 //! A controller of any kind, in a box.
 
+ghost use Rattle.cm_stock.specs.Stocks.{AreBlanks};
 ghost use Rattle.std.specs.Prelude.{◌≡◌, IfOk, map};
 ghost use Rattle.cm_model.specs.Blanks.{blanks_of_each};
-ghost use Rattle.ctl_rack.specs.Stocks.{AreBlanks};
 
 use crate::any_kind::AnyKind;
 use crate::stock::blanks;

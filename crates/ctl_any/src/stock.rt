@@ -1,15 +1,15 @@
 //! So many blanks of each kind.
 
+ghost use Rattle.cm_stock.specs.Stocks.{AreBlanks};
 ghost use Rattle.std.specs.Prelude.{◌+◌, IfOk, OnOk, map};
 ghost use Rattle.cm_model.specs.Blanks.{blanks_of, blanks_of_each, with_count};
 ghost use Rattle.cm_model.specs.declared.blanks.Blanks.{Blanks};
 ghost use Rattle.ctl_any.specs.Stocks.{with_some_of};
-ghost use Rattle.ctl_rack.specs.Stocks.{AreBlanks};
 
 use crate::any_kind::AnyKind;
 use cm_document::{CONTROLLER_KINDS, CtlKind};
 use cm_model::Blanks;
-use ctl_rack::add;
+use cm_stock::add;
 use ctl_trait::Controller;
 use fixed_num::Memory;
 use std::alloc::Global;

@@ -15,8 +15,8 @@ use crate::port::DeskPort;
 use crate::sessions::waiting;
 use cm_desk::Desk;
 use cm_document::{Checked, Script, Turn};
+use cm_stock::Stock;
 use console_session::{Progress, Session};
-use ctl_rack::Stock;
 use ctl_trait::Controller;
 use fixed_num::Memory;
 use rt_flight::Flight;
@@ -205,13 +205,11 @@ impl<C: Controller> RunningJob<C> {
     {
         let cycle = self.ended();
         match *turn {
-            Turn::Step(who) => step(alloc, who, &mut self.sessions, &mut self.desk),
-            Turn::Begin => self.begin(alloc, cycle),
-            Turn::End => {
-                self.end(cycle);
-                Ok(())
-            }
+            Turn::Step(who) => step(alloc, who, &mut self.sessions, &mut self.desk)?,
+            Turn::Begin => self.begin(alloc, cycle)?,
+            Turn::End => self.end(cycle),
         }
+        Ok(())
     }
 }
 

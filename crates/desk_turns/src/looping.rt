@@ -12,7 +12,7 @@ ghost use Rattle.desk_turns.specs.Jobs.{GoesOn, JobFacts, LeavesJob, progress_of
 
 use crate::jobs::{RunningJob, compute_by};
 use cm_document::{Checked, Script, Turn};
-use ctl_rack::Stock;
+use cm_stock::Stock;
 use ctl_trait::Controller;
 use fixed_num::Memory;
 use std::alloc::Global;

@@ -5,9 +5,9 @@ ghost use Rattle.std.specs.List.{All};
 ghost use Rattle.cm_model.specs.Controllers.{IsBlank};
 
 use cm_desk::Book;
+use cm_stock::Stock;
 use cm_top::{Status, run_alone};
 use cm_words::{Job, JobKind};
-use ctl_rack::Stock;
 use ctl_trait::Controller;
 use outside_io::{MemSink, MemSource, Sink};
 use pages_calls::stocks::blanks;

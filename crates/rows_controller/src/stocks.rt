@@ -5,9 +5,9 @@ ghost use Rattle.std.specs.List.{All};
 ghost use Rattle.cm_model.specs.Controllers.{IsBlank};
 
 use cm_document::{CONTROLLER_KINDS, CtlKind, meaning_of};
+use cm_stock::Stock;
 use ctl_forward::{Forward, Passthrough};
 use ctl_mock::Mock;
-use ctl_rack::Stock;
 use ctl_trait::Controller;
 use pages_cases::pages::{Teller, hold, push_parted};
 use std::alloc::Global;

@@ -10,7 +10,7 @@ use crate::looping::{DeskLoop, across, make_cycle};
 use cm_desk::Desk;
 use cm_document::{Call, Checked};
 use cm_model::LoopPort;
-use ctl_rack::Stock;
+use cm_stock::Stock;
 use ctl_trait::Controller;
 use pages_calls::calls::call_of;
 use pages_calls::described::described;

@@ -6,8 +6,8 @@ ghost use Rattle.cm_model.specs.Controllers.{IsBlank};
 
 use crate::ordered::{InOrder, OrderedPace};
 use crate::waiting::told;
+use cm_stock::Stock;
 use cm_top::{Status, run};
-use ctl_rack::Stock;
 use ctl_trait::Controller;
 use outside_io::{MemSink, MemSource};
 use pages_calls::stocks::blanks;

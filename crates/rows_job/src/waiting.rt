@@ -4,8 +4,8 @@ ghost use Rattle.std.specs.Prelude.{◌<◌, ◌^◌, length};
 ghost use Rattle.std.specs.List.{All};
 ghost use Rattle.cm_model.specs.Controllers.{IsBlank};
 
+use cm_stock::Stock;
 use cm_top::{Status, run};
-use ctl_rack::Stock;
 use ctl_trait::Controller;
 use outside_io::{Gate, Pace, Point};
 use pages_cases::pages::joined;

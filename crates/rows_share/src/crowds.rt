@@ -14,7 +14,7 @@ use crate::looping::{Looping, begin, close, compute, land};
 use cm_desk::Desk;
 use cm_document::Call;
 use cm_model::Entry;
-use ctl_rack::Stock;
+use cm_stock::Stock;
 use ctl_trait::Controller;
 use iface_names::Name;
 use pages_calls::described::described;

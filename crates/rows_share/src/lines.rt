@@ -13,7 +13,7 @@ use crate::stand::Stand;
 use cm_desk::Desk;
 use cm_document::Checked;
 use cm_model::Entry;
-use ctl_rack::Stock;
+use cm_stock::Stock;
 use ctl_trait::Controller;
 use fixed_num::Memory;
 use pages_calls::described::described;

@@ -13,7 +13,7 @@ use crate::fault::WrongLine;
 use crate::printing::make_line;
 use cm_document::{Checked, Script, Turn};
 use cm_model::Entry;
-use ctl_rack::Stock;
+use cm_stock::Stock;
 use ctl_trait::Controller;
 use desk_turns::RunningJob;
 use fixed_num::Memory;

@@ -15,7 +15,7 @@ from ..tree import TOP, uses_of_each
 from .repository import Repository
 
 MOST_FILES, ANY_KIND = 10, {"Forward", "Mock"}
-NO_KINDS = {"ctl_trait", "ctl_rack", "ctl_any"}  # crates of the family ctl_ that have no kind
+NO_KINDS = {"ctl_trait", "ctl_any"}  # crates of the family ctl_ that have no kind
 APART = re.compile(r"crates/(?:rows|pages)_|crates/made_laws/|(?:Rows|/Worked\w*)\.antt$")
 PICTURES = re.compile(r"crates/draw_")
 TYPES = "CtlKind|Params|AnyKind|RunData"

@@ -4,8 +4,8 @@ use Rattle.cm_document.specs.declared.description.CtlKind.TheVariants.{Forward}
 use Rattle.ctl_any.specs.Stocks.{with_some_of}
 use Rattle.ctl_any.specs.contracts.any_kind.AnyKindController.TheImpl.{ghosts}
 use Rattle.ctl_any.proofs.CountLemmas.{next_kind, no_kind_left}
-use Rattle.ctl_rack.specs.Stocks.{AreBlanks}
-use Rattle.ctl_rack.proofs.StockLemmas.{blanks_counted}
+use Rattle.cm_stock.specs.Stocks.{AreBlanks}
+use Rattle.cm_stock.proofs.StockLemmas.{blanks_counted}
 use Rattle.ctl_any.proofs.stock.add_counted.Goals as goal
 
 pub loop-row-init : goal.loop-row-init

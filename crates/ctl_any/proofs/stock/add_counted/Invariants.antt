@@ -2,7 +2,7 @@ use Rattle.std.proofs.Common.{◌≡◌, drop, map}
 use Rattle.cm_model.specs.declared.blanks.Blanks.{Blanks}
 use Rattle.ctl_any.specs.Stocks.{with_some_of}
 use Rattle.ctl_any.specs.contracts.any_kind.AnyKindController.TheImpl.{ghosts}
-use Rattle.ctl_rack.specs.Stocks.{AreBlanks}
+use Rattle.cm_stock.specs.Stocks.{AreBlanks}
 use Rattle.ctl_any.proofs.stock.add_counted.Given as goal
 
 -- the blanks so far, with those of each kind that is left, are those with those of each kind

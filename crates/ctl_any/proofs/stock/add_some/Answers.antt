@@ -3,8 +3,8 @@ use Rattle.cm_model.specs.Blanks.{blanks_of, with_count}
 use Rattle.cm_model.specs.declared.blanks.Blanks.{Blanks}
 use Rattle.ctl_any.proofs.CountLemmas.{none_more, one_counted}
 use Rattle.ctl_any.specs.contracts.any_kind.AnyKindController.TheImpl.{ghosts}
-use Rattle.ctl_rack.specs.Stocks.{AreBlanks}
-use Rattle.ctl_rack.proofs.StockLemmas.{blanks_counted}
+use Rattle.cm_stock.specs.Stocks.{AreBlanks}
+use Rattle.cm_stock.proofs.StockLemmas.{blanks_counted}
 use Rattle.ctl_any.proofs.stock.add_some.Goals as goal
 
 -- none more yet

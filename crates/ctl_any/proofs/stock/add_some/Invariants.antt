@@ -2,7 +2,7 @@ use Rattle.cm_model.specs.Blanks.{blanks_of, with_count}
 use Rattle.cm_model.specs.declared.blanks.Blanks.{Blanks}
 use Rattle.std.proofs.Common.{◌+◌}
 use Rattle.ctl_any.specs.contracts.any_kind.AnyKindController.TheImpl.{ghosts}
-use Rattle.ctl_rack.specs.Stocks.{AreBlanks}
+use Rattle.cm_stock.specs.Stocks.{AreBlanks}
 use Rattle.ctl_any.proofs.stock.add_some.Given as goal
 
 -- so many more so far

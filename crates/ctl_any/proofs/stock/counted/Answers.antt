@@ -3,7 +3,7 @@ use Rattle.cm_model.specs.Blanks.{no_blanks}
 use Rattle.cm_model.specs.declared.blanks.Blanks.{Blanks}
 use Rattle.ctl_any.proofs.CountLemmas.{all_counted}
 use Rattle.ctl_any.specs.contracts.any_kind.AnyKindController.TheImpl.{ghosts}
-use Rattle.ctl_rack.specs.Stocks.{AreBlanks}
+use Rattle.cm_stock.specs.Stocks.{AreBlanks}
 use Rattle.ctl_any.proofs.stock.counted.Goals as goal
 
 -- so many of each kind, one kind after the other
