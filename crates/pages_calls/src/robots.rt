@@ -37,6 +37,7 @@ reads = "all"
 name = "mk"
 type = "mock"
 not_ready = [2]
+fail_update = [5]
 [[controller]]
 name = "pt"
 type = "passthrough"

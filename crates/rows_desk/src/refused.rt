@@ -8,12 +8,7 @@ use std::test::Fail;
 #[test]
 fn a_call_that_was_refused_memory_is_made_again(rt: HostRuntime) -> Result<(), Fail> {
     let alloc = rt.alloc();
-    let failing = SEVEN.replace(
-        alloc,
-        "not_ready = [2]",
-        "not_ready = [2]\nfail_update = [5]",
-    )?;
-    hold_calls(&rt, alloc, failing.as_str(), 2, CALLS)
+    hold_calls(&rt, alloc, SEVEN, 2, CALLS)
 }
 
 /// A forward, a broadcaster and a mock are switched on together. The mock is not ready in cycle 2, and its update fails

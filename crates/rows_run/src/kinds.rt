@@ -3,58 +3,11 @@
 mod computing;
 
 use computing::{PIDS, TRAJECTORIES};
+use pages_calls::robots::SEVEN;
 use pages_cases::pages::hold;
 use pages_runs::documents::SIX_JOINTS;
 use pages_runs::runs::OF_PROGRAM;
 use std::test::Fail;
-
-/// One joint, and controllers that command it: directly, through a pid, or not at all.
-const ARM: &str = r#"version = 1
-update_rate = 100
-cycles = 6
-[[component]]
-name = "arm"
-kind = "system"
-[[component.joint]]
-name = "j1"
-vmax = 1
-command = ["position", "velocity"]
-state = ["position", "velocity"]
-[[controller]]
-name = "fwd"
-type = "forward"
-claims = ["j1/position"]
-[[controller]]
-name = "pid"
-type = "pid"
-claims = ["j1/velocity"]
-reads = ["j1/position"]
-kp = 2
-omax = 10
-[[controller]]
-name = "traj"
-type = "trajectory"
-claims = ["pid/j1/position"]
-reads = ["j1/position"]
-[[controller]]
-name = "traj2"
-type = "trajectory"
-claims = ["j1/position"]
-reads = ["j1/position"]
-[[controller]]
-name = "jsb"
-type = "broadcaster"
-reads = "all"
-[[controller]]
-name = "mk"
-type = "mock"
-not_ready = [2]
-fail_update = [5]
-[[controller]]
-name = "pt"
-type = "passthrough"
-claims = ["pid/j1/position"]
-"#;
 
 /// A trajectory above a pid needs it, and is updated before it, though it was loaded later. What it gives out the pid
 /// takes in the same cycle: half way at 0.05 with the joint at 0, the pid asks for twice that as a velocity. A pid that
@@ -342,9 +295,9 @@ loop close: none";
 #[test]
 fn controllers_that_compute_run_in_chains(rt: HostRuntime) -> Result<(), Fail> {
     let alloc = rt.alloc();
-    hold(alloc, &OF_PROGRAM, ARM, CHAINS)?;
-    hold(alloc, &OF_PROGRAM, ARM, OWNERS)?;
-    hold(alloc, &OF_PROGRAM, ARM, MAIL)?;
+    hold(alloc, &OF_PROGRAM, SEVEN, CHAINS)?;
+    hold(alloc, &OF_PROGRAM, SEVEN, OWNERS)?;
+    hold(alloc, &OF_PROGRAM, SEVEN, MAIL)?;
     hold(alloc, &OF_PROGRAM, "", PIDS)?;
     hold(alloc, &OF_PROGRAM, "", TRAJECTORIES)?;
     hold(alloc, &OF_PROGRAM, "", SIX_JOINTS)
