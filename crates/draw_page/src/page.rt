@@ -1,7 +1,7 @@
 //! The page: a heading, who claims and reads what, the run, and the joints.
 
 use crate::courses::{joint_courses, limiter_courses};
-use crate::curves::{Curves, draw_curves, longest_value};
+use crate::curves::{Curves, NamedCourse, draw_curves, longest_value};
 use crate::keys::{draw_curve_keys, draw_link_keys, draw_run_keys};
 use crate::style::STYLE;
 use crate::warnings::{draw_warnings, push_warnings};
@@ -127,29 +127,61 @@ fn page(
     let longest = longest_value(alloc, joints.as_slice())?;
     let values = longest.max(longest_value(alloc, limiters.as_slice())?);
     let left = names_end(linked.description, linked.joints, values);
-    let run = Run {
-        strip: Strip::of(columns, left),
-        description: linked.description,
-        replay,
-        wrong_line: wrong.map(|it| it.line),
-    };
-    let mut svg = Svg::new(alloc);
-    let top = draw_head(alloc, &mut svg, name, linked.description, run.replay.counts)?;
-    let top = draw_wrong(alloc, &mut svg, top, wrong)?;
-    let top = draw_warnings(alloc, &mut svg, top, linked.description)?;
-    let top = draw(alloc, &mut svg, top, linked, run)?;
-    let curves = Curves {
-        strip: &run.strip,
-        courses: joints.as_slice(),
+    let drawn = PageParts {
+        linked,
+        run: Run {
+            strip: Strip::of(columns, left),
+            description: linked.description,
+            replay,
+            wrong_line: wrong.map(|it| it.line),
+        },
+        joints: joints.as_slice(),
+        limiters: limiters.as_slice(),
         values,
     };
-    let top = draw_curve_part(alloc, &mut svg, top, "Where each joint was", curves)?;
+    page_of_parts(alloc, name, drawn, wrong)
+}
+
+/// What a page has below its head.
+#[derive(Clone, Copy)]
+struct PageParts<'a> {
+    linked: Linked<'a>,
+    run: Run<'a>,
+    joints: &'a [NamedCourse<'a>],
+    limiters: &'a [NamedCourse<'a>],
+    /// The most letters of a value of a course.
+    values: usize,
+}
+
+fn page_of_parts(
+    alloc: Global,
+    name: &str,
+    drawn: PageParts<'_>,
+    wrong: Option<WrongTrace<'_>>,
+) -> Result<String, Memory> {
+    let description = drawn.linked.description;
+    let mut svg = Svg::new(alloc);
+    let top = draw_head(alloc, &mut svg, name, description, drawn.run.replay.counts)?;
+    let top = draw_wrong(alloc, &mut svg, top, wrong)?;
+    let top = draw_warnings(alloc, &mut svg, top, description)?;
+    let bottom = draw_parts(alloc, &mut svg, top, drawn)?;
+    whole(alloc, &svg, bottom)
+}
+
+/// Draws the run, and behind it the curves; gives where these end.
+fn draw_parts(alloc: Global, svg: &mut Svg, top: Px, drawn: PageParts<'_>) -> Result<Px, Memory> {
+    let top = draw(alloc, svg, top, drawn.linked, drawn.run)?;
+    let curves = Curves {
+        strip: &drawn.run.strip,
+        courses: drawn.joints,
+        values: drawn.values,
+    };
+    let top = draw_curve_part(alloc, svg, top, "Where each joint was", curves)?;
     let given = Curves {
-        courses: limiters.as_slice(),
+        courses: drawn.limiters,
         ..curves
     };
-    let bottom = draw_curve_part(alloc, &mut svg, top, "What each limiter gave", given)?;
-    whole(alloc, &svg, bottom)
+    draw_curve_part(alloc, svg, top, "What each limiter gave", given)
 }
 
 /// Where the names beside the columns end. The ends of a joint's range, so many letters, stand behind its name.
