@@ -1,4 +1,5 @@
 use Rattle.std.proofs.Common.{rules, ap, arith}
+use Rattle.std.proofs.lemmas.Result.{err_from_is_err_and}
 use Rattle.desk_turns.specs.Ports.{DeskGround}
 use Rattle.desk_turns.proofs.NumberLemmas.{advanced-who, sessions_over_port, stopped_over_port}
 use Rattle.desk_turns.proofs.SettleLemmas.{step_over}
@@ -30,7 +31,9 @@ returns-clause-numbered g c =
 pub returns-in_err-advance-clause-stepped : goal.returns-in_err-advance-clause-stepped
 returns-in_err-advance-clause-stepped g c =
     let opening = ap (λ (k : DeskGround). k.opening) c.in_err-advance.ensures.still in
-    stopped_over_port c.args.desk.now c.over-port.result.desk.now c.advance.new.port.desk.now _ c.args.sessions.now
+    let p = err_from_is_err_and c.from_residual.result c.from_residual.ensures.1 in
+    rw p.1
+    (stopped_over_port c.args.desk.now c.over-port.result.desk.now c.advance.new.port.desk.now _ c.args.sessions.now
     c.args.who c.over-port.result.who c.advance.new.port.who c.over-port.result.waited c.advance.new.port.waited
     c.index-sessions-who.result c.advance.new.self c.over-port.ensures.desk opening (search rules)
-    c.in_err-advance.ensures.kept
+    c.in_err-advance.ensures.kept)
