@@ -127,10 +127,8 @@ fn play_on<R: Wait, C: Controller>(
     requires sessions { AreSessions desk.lock desk.at_first.value sessions.first sessions.second }
     requires looping { IsLoopOf desk.lock desk.at_first.value looping.pass.pass looping.stand looping.flight }
 {
-    let held = hold_lines(rt, alloc, &desk, &mut sessions, &mut looping, calls);
-    let ended = hold_end(alloc, desk, sessions, looping, history);
-    held?;
-    ended
+    hold_lines(rt, alloc, &desk, &mut sessions, &mut looping, calls)?;
+    hold_end(alloc, desk, sessions, looping, history)
 }
 
 /// Fails at the first of these calls of which something else is told than is wanted.
