@@ -4,11 +4,13 @@ use cm_model::MOST_WAITING;
 use std::sync::atomic::Ordering::SeqCst;
 use std::sync::atomic::{AtomicBool, AtomicU64};
 
-/// How far the loop of a case is, and what its sessions have loaded and asked.
+/// How far the loop of a case is, and what its sessions have made, loaded and asked.
 #[derive(Drop)]
 pub struct Board {
     ended: AtomicU64,
     is_closed: AtomicBool,
+    /// So many entries all sessions have made.
+    made: AtomicU64,
     loads: AtomicU64,
     asked: AtomicU64,
     /// So many of the requests that were asked are decided.
@@ -21,6 +23,7 @@ impl Board {
         Board {
             ended: AtomicU64::new(0),
             is_closed: AtomicBool::new(false),
+            made: AtomicU64::new(0),
             loads: AtomicU64::new(0),
             asked: AtomicU64::new(0),
             decided: AtomicU64::new(0),
@@ -55,6 +58,16 @@ impl Board {
     /// Whether the request of this ticket is decided.
     pub fn is_decided(&self, ticket: u32) -> bool {
         self.is_closed() || self.decided.load(SeqCst) > ticket as u64
+    }
+
+    /// A session makes an entry.
+    pub fn count(&self) {
+        self.made.fetch_add(1, SeqCst);
+    }
+
+    /// So many entries all sessions have made.
+    pub fn made(&self) -> u64 {
+        self.made.load(SeqCst)
     }
 
     /// Whether this load is the first one.

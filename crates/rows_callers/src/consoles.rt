@@ -57,6 +57,7 @@ impl<'a> Console<'a> {
             reply,
         };
         self.made.push(entry)?;
+        self.board.count();
         Ok(())
     }
 }
@@ -150,7 +151,7 @@ impl<'a> Port for Console<'a> {
 /// The loop's console, of which a begin may be refused memory.
 #[derive(Drop)]
 pub struct LoopEnd<'a> {
-    board: &'a Board,
+    pub board: &'a Board,
     pub ended: u64,
     pub left: u64,
     pub is_out: bool,

@@ -93,7 +93,7 @@ fn told_of<'b, R: Threads + Wait + Sync>(
     push_loop(&mut told, &looping, &pace)?;
     match ports {
         Ok(ports) => push_sessions(&mut told, ports.as_slice())?,
-        Err(Memory) => told.push_str("\nno memory")?,
+        Err(Memory) => write!(told, "\nno memory, {} entries", looping.board.made())?,
     }
     told.push_str(if gate.has_run_out() {
         "\na hold ran out"
@@ -295,8 +295,11 @@ await 1
 => 0 cycles, closed, 0 pauses
 await 1: ok";
 
-/// A session without memory for its third entry, and a loop without memory for its second begin.
+/// A session without memory for its third entry, and a loop without memory for its second begin. All others make each
+/// of their lines, so the entries are as many as lines and memory allow. The second cycle waits until the session tries
+/// its third line. The other session waits for the end of that cycle, so most of its lines stand behind the refusal.
 const STOPPED: &str = "\
+begun 1 until before 0 2
 cycles 2 memory 2
 session a 2
 configure fwd
@@ -304,11 +307,18 @@ cleanup fwd
 configure fwd
 session b 9
 await 2
+configure fwd
+cleanup fwd
 => 2 cycles, closed, 2 pauses
-no memory
+no memory, 5 entries
 
 cycles 3 memory 1
 session a 9
 await 3
+configure fwd
+cleanup fwd
+session b 9
+await 2
+configure fwd
 => 1 cycles, closed, 1 pauses
-no memory";
+no memory, 5 entries";
