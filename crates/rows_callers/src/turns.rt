@@ -77,7 +77,7 @@ impl Kept for Book {
 }
 
 /// How long a pass holds the turn.
-#[derive(Clone, Copy, PartialEq, Eq)]
+#[derive(Clone, Copy)]
 enum Hold {
     /// As long as its line takes.
     Short,
@@ -93,16 +93,26 @@ const LONG: u64 = 20;
 /// More pauses of the processor than those who wait make before they sleep: 256 looks, each of up to four pauses.
 const MOST_PAUSES: u32 = 1_024;
 
-/// A rest of a pass that waits for the other one to begin, in microseconds, and as many of them as ten seconds have.
+/// A rest of a pass that waits for the others to begin, in microseconds, and as many of them as ten seconds have.
 const REST: u64 = 100;
 
 const MOST_RESTS: u32 = 100_000;
 
-/// What each pass does: so many turns, held so long.
+/// So many passes write at once, each at so many turns, which it holds so long.
 #[derive(Clone, Copy)]
 struct Work {
+    seats: u32,
     turns: u32,
     hold: Hold,
+}
+
+impl Work {
+    fn of(seats: u32, turns: u32, hold: Hold) -> Work
+        ensures seats { result.seats ≡ seats }
+        ensures turns { result.turns ≡ turns }
+    {
+        Work { seats, turns, hold }
+    }
 }
 
 /// Holds the turn of this number.
@@ -173,25 +183,22 @@ fn write_lines<R: Wait + Clock>(
 {
     for turn in 0..work.turns {
         write_line(rt, lock, &mut pass, work.hold, turn);
-        if turn == 0 && work.hold == Hold::Varied {
-            meet(rt, lock, &mut pass);
+        if turn == 0 {
+            meet(rt, lock, &mut pass, work.seats);
         }
     }
     pass
 }
 
-/// So many lines stand once each of two passes has written one.
-const A_LINE_EACH: u64 = 2;
-
-/// Rests until two passes have written, so that neither writes all of its lines before the other begins.
-fn meet<R: Wait>(rt: &R, lock: &TurnLock<Book>, pass: &mut TurnPass<Book>)
+/// Rests until so many passes have written a line each, so that none writes its second one before another begins.
+fn meet<R: Wait>(rt: &R, lock: &TurnLock<Book>, pass: &mut TurnPass<Book>, seats: u32)
     requires ready { IsReady lock.now pass.old }
     ensures ready { IsReady lock.now pass.new }
     ensures number { pass.new.number ≡ pass.old.number }
 {
     for _ in 0..MOST_RESTS {
         let lines = lock.seen(pass, Shown::Cycles);
-        if lines >= A_LINE_EACH {
+        if lines >= seats as u64 {
             return;
         }
         lock.rest(rt, Shown::Cycles, lines, REST);
@@ -220,18 +227,17 @@ fn hand_in(lock: TurnLock<Book>, mut passes: Vec<TurnPass<Book>>) -> Option<Book
     Some(lock.finish(last, passes))
 }
 
-/// What so many passes wrote.
+/// What the passes wrote.
 fn written<R: Threads + Wait + Clock + Sync>(
     rt: &R,
     alloc: Global,
-    seats: u32,
     work: Work,
 ) -> Result<Option<Book>, Memory>
-    requires seats { (1 ≤ seats) × (seats ≤ MOST_SEATS) }
+    requires seats { (1 ≤ work.seats) × (work.seats ≤ MOST_SEATS) }
     requires turns { work.turns ≤ MOST_TURNS }
 {
-    let lines = Vec::with_capacity(alloc, (seats * work.turns) as usize)?;
-    let (lock, passes) = TurnLock::make(alloc, Book { lines }, seats)?;
+    let lines = Vec::with_capacity(alloc, (work.seats * work.turns) as usize)?;
+    let (lock, passes) = TurnLock::make(alloc, Book { lines }, work.seats)?;
     let passes = write_all(rt, &lock, passes, work)?;
     Ok(hand_in(lock, passes))
 }
@@ -250,31 +256,23 @@ fn in_order(book: &Book, who: u32) -> Option<u32> {
     Some(next)
 }
 
-/// The book has as many lines, of each pass as many, each pass's in order of its turns.
+/// The book has as many lines, of each pass as many, each pass's in order of its turns. The first lines of all passes
+/// stand before the second of any, which those of passes one after another don't.
 fn shows_all<R: Threads + Wait + Clock + Sync>(
     rt: &R,
     alloc: Global,
-    seats: u32,
     work: Work,
 ) -> Result<bool, Memory>
-    requires seats { (1 ≤ seats) × (seats ≤ MOST_SEATS) }
+    requires seats { (1 ≤ work.seats) × (work.seats ≤ MOST_SEATS) }
     requires turns { work.turns ≤ MOST_TURNS }
 {
-    let Some(book) = written(rt, alloc, seats, work)? else {
+    let Some(book) = written(rt, alloc, work)? else {
         return Ok(false);
     };
-    let each = (0..seats).all(|who| in_order(&book, who) == Some(work.turns));
-    Ok(each && book.lines.len() == (seats * work.turns) as usize)
-}
-
-/// So many turns, each as long as its line takes.
-fn short(turns: u32) -> Work
-    ensures { result.turns ≡ turns }
-{
-    Work {
-        turns,
-        hold: Hold::Short,
-    }
+    let mut first = book.lines.iter().take(work.seats as usize);
+    let mixed = first.all(|line| line.turn == 0);
+    let each = (0..work.seats).all(|who| in_order(&book, who) == Some(work.turns));
+    Ok(mixed && each && book.lines.len() == (work.seats * work.turns) as usize)
 }
 
 /// So many milliseconds pass between two looks at a case, and so many looks are taken at most: twenty seconds, where a
@@ -298,19 +296,18 @@ pub(crate) fn watch<R: Clock + Abort>(rt: &R, is_done: &AtomicBool) {
 fn shows_all_in_time<R: Threads + Wait + Clock + Abort + Sync>(
     rt: &R,
     alloc: Global,
-    seats: u32,
     work: Work,
 ) -> Result<bool, Memory>
-    requires seats { (1 ≤ seats) × (seats ≤ MOST_SEATS) }
+    requires seats { (1 ≤ work.seats) × (work.seats ≤ MOST_SEATS) }
     requires turns { work.turns ≤ MOST_TURNS }
 {
     let flag = AtomicBool::new(false);
     let is_done = &flag;
     let watched = || watch(rt, is_done);
     let worked = move || -> Result<bool, Memory>
-        requires { (1 ≤ seats) × (seats ≤ MOST_SEATS) × (work.turns ≤ MOST_TURNS) }
+        requires { (1 ≤ work.seats) × (work.seats ≤ MOST_SEATS) × (work.turns ≤ MOST_TURNS) }
     {
-        let shown = shows_all(rt, alloc, seats, work);
+        let shown = shows_all(rt, alloc, work);
         is_done.store(true, SeqCst);
         shown
     };
@@ -319,31 +316,27 @@ fn shows_all_in_time<R: Threads + Wait + Clock + Abort + Sync>(
 
 #[test]
 fn eight_threads_write_a_hundred_lines_each(rt: HostRuntime) -> Result<(), Fail> {
-    assert!(rt; shows_all_in_time(&rt, rt.alloc(), 8, short(100))?);
+    assert!(rt; shows_all_in_time(&rt, rt.alloc(), Work::of(8, 100, Hold::Short))?);
     Ok(())
 }
 
 #[test]
 fn one_seat_alone(rt: HostRuntime) -> Result<(), Fail> {
-    assert!(rt; shows_all_in_time(&rt, rt.alloc(), 1, short(3))?);
+    assert!(rt; shows_all_in_time(&rt, rt.alloc(), Work::of(1, 3, Hold::Short))?);
     Ok(())
 }
 
 #[test]
 fn as_many_seats_as_a_lock_has(rt: HostRuntime) -> Result<(), Fail> {
-    assert!(rt; shows_all_in_time(&rt, rt.alloc(), MOST_SEATS, short(5))?);
+    assert!(rt; shows_all_in_time(&rt, rt.alloc(), Work::of(MOST_SEATS, 5, Hold::Short))?);
     Ok(())
 }
 
 /// Of two passes one sleeps while the other has the turn, of eight seven do.
 #[test]
 fn each_pass_that_sleeps_is_woken(rt: HostRuntime) -> Result<(), Fail> {
-    let work = Work {
-        turns: 3,
-        hold: Hold::Long,
-    };
-    assert!(rt; shows_all_in_time(&rt, rt.alloc(), 2, work)?);
-    assert!(rt; shows_all_in_time(&rt, rt.alloc(), 8, work)?);
+    assert!(rt; shows_all_in_time(&rt, rt.alloc(), Work::of(2, 3, Hold::Long))?);
+    assert!(rt; shows_all_in_time(&rt, rt.alloc(), Work::of(8, 3, Hold::Long))?);
     Ok(())
 }
 
@@ -353,12 +346,8 @@ const TIMES: u32 = 8;
 /// Turns come just when those who wait go to sleep. Each pass waits for the other's first line, so both run at once.
 #[test]
 fn no_pass_sleeps_through_its_turn(rt: HostRuntime) -> Result<(), Fail> {
-    let work = Work {
-        turns: MOST_TURNS,
-        hold: Hold::Varied,
-    };
     for _ in 0..TIMES {
-        assert!(rt; shows_all_in_time(&rt, rt.alloc(), 2, work)?);
+        assert!(rt; shows_all_in_time(&rt, rt.alloc(), Work::of(2, MOST_TURNS, Hold::Varied))?);
     }
     Ok(())
 }
