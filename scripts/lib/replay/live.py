@@ -7,12 +7,17 @@ job `check` judges the whole trace, and so does another implementation, if one i
 
 The documents are the examples that run and have no schedule, and others that are made here: four sessions list, send,
 wait and switch beside 300 cycles. Every other one of these comes from the maker of the other implementation, if one is
-named. Last it says how many different traces the documents gave, and how many lines of sessions came while a cycle was
-aloft. The exit status is 1 if a trace is wrong or a run hangs, and if no document gave a second trace.
+named. Then each test of live runs is run once, pinned to one processor. The test programs are those that the gate
+built: one that is not there fails. With `--tests` another program is named for a crate.
+
+Last it says how many different traces the documents gave, and how many lines of sessions came while a cycle was aloft.
+The exit status is 1 if a trace is wrong, a run hangs or a test fails. On more processors than one it is 1 too if no
+document gave a second trace, or no line came while a cycle was aloft.
 """
 
 import collections
 import concurrent.futures
+import contextlib
 import functools
 import itertools
 import os
@@ -28,6 +33,9 @@ from .traces import LONGEST, SEPARATOR, aloft, before_close, calls_of, scheduled
 LIMIT = 60  # seconds; a run takes some hundredths of one
 CYCLES, SESSIONS, LINES, JOINTS = 300, 4, 20, 3
 MOST_TURNS = 10_000  # calls and turns of a script
+PINNED = ("rows_job", "rows_callers")  # the crates whose tests are run on one processor
+TEST_LIMIT = 300  # seconds; a test takes some seconds of a processor
+LISTED = ": test"  # what stands behind the name of each test that a program of tests lists
 
 
 def options(parser):
@@ -37,6 +45,7 @@ def options(parser):
     parser.add_argument("--processors", type=int, help="on so many processors alone")
     other_option(parser, "which judges and makes documents too")
     programs.options(parser)
+    programs.tests_option(parser)
 
 
 # ---- The documents
@@ -183,6 +192,77 @@ def tried(program, other, times, document):
     return Tried(name, len({came.printed for came in all_came}), lines, max(came.seconds for came in all_came), wrong)
 
 
+def sums(asked, all_tried):
+    """Prints what the runs of all documents came to together, and returns whether they are as they should be."""
+    many, failed = sum(it.traces > 1 for it in all_tried), sum(len(it.wrong) for it in all_tried)
+    traces, lines = sum(it.traces for it in all_tried), sum(it.aloft for it in all_tried)
+    most, longest = max(it.traces for it in all_tried), max(it.longest for it in all_tried) * 1000
+    print(
+        f"{asked.times * len(all_tried):,} live runs of {len(all_tried):,} documents gave {traces:,} different "
+        f"traces, {many:,} documents more than one, and {most:,} the most of one; {lines:,} lines of sessions came while "
+        f"a cycle was aloft; the longest took {longest:.0f} ms of processors; {failed} wrong"
+    )
+    odd = [*alone(asked, many, lines)] if len(os.sched_getaffinity(0)) > 1 else []
+    for why in odd:
+        print(f"FAILED  all documents: {why}")
+    return not failed and not odd
+
+
+def alone(asked, many, lines):
+    """Gives what shows that nothing went on beside the loop, by the documents with several traces and the lines that
+    came while a cycle was aloft.
+    """
+    if not many and asked.times > 1:
+        yield "none gave a second trace"
+    if not lines:
+        yield "no line of a session came while a cycle was aloft"
+
+
+# ---- The tests on one processor
+
+
+@contextlib.contextmanager
+def on_one_processor():
+    """Pins what is begun here to one processor."""
+    before = os.sched_getaffinity(0)
+    os.sched_setaffinity(0, {min(before)})
+    try:
+        yield
+    finally:
+        os.sched_setaffinity(0, before)
+
+
+def run_of_test(program, test):
+    """What is wrong with a run of a test, or None."""
+    came = programs.came([program, test], limit=TEST_LIMIT)
+    if came.status is None:
+        return "it hangs"
+    return None if came.status == 0 else f"status {came.status}, {came.told[-200:]!r}"
+
+
+def pinned(asked):
+    """Runs each test on one processor. Gives its name, and what is wrong, or None."""
+    for crate in PINNED:
+        program, why = programs.tests(asked, crate)
+        listed = [] if why else programs.came([program, "--list"]).printed.decode().splitlines()
+        tests = [line.removesuffix(LISTED) for line in listed if line.endswith(LISTED)]
+        if not tests:
+            yield crate, why or "it lists no test"
+        for test in tests:
+            yield f"{crate}: {test}", run_of_test(program, test)
+
+
+def pinned_are_right(asked):
+    """Prints which tests failed on one processor, and how many were run. Returns whether none failed."""
+    with on_one_processor():
+        wrong = dict(pinned(asked))
+    failed = {name: why for name, why in wrong.items() if why}
+    for name, why in failed.items():
+        print(f"FAILED  {name}: {why}")
+    print(f"{len(wrong)} tests on one processor, {len(failed)} failed")
+    return not failed
+
+
 def main(asked):
     program = programs.program(asked)
     if asked.processors:
@@ -193,14 +273,5 @@ def main(asked):
     for it in all_tried:
         if it.wrong:
             print(f"FAILED  {it.name}: {it.wrong[0]}", flush=True)
-    many, failed = sum(it.traces > 1 for it in all_tried), sum(len(it.wrong) for it in all_tried)
-    traces, lines = sum(it.traces for it in all_tried), sum(it.aloft for it in all_tried)
-    longest = max(it.longest for it in all_tried) * 1000
-    print(
-        f"{asked.times * len(all_tried):,} live runs of {len(all_tried):,} documents gave {traces:,} different "
-        f"traces, {many:,} documents "
-        f"more than one; {lines:,} lines of sessions came while a cycle was aloft; the longest took {longest:.0f} ms "
-        "of processors; "
-        f"{failed} wrong"
-    )
-    return int(failed > 0 or many == 0 and asked.times > 1 and len(os.sched_getaffinity(0)) > 1)
+    are_right = [sums(asked, all_tried), pinned_are_right(asked)]
+    return int(not all(are_right))

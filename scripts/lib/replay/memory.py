@@ -9,9 +9,9 @@ was refused memory has changed the history, or has another answer when it is mad
 refusal shows nothing, and fails.
 
 A library that is loaded before all else refuses memory. It is compiled here, by the kit. It does not reach the program
-that ./try compiled, whose memory is watched by a library of its own. The test programs are those that the gate built:
-without one, a line says so. With `--tests` another program is named for a crate. Prints a line for each run that is not
-so, one for each document and test, and last `N passed, M failed`. The exit status is 1 if one failed.
+that ./try compiled, whose memory is watched by a library of its own. The test programs are those that the gate built: a
+test without one fails. With `--tests` another program is named for a crate. Prints a line for each run that is not so,
+one for each document and test, and last `N passed, M failed`. The exit status is 1 if one failed.
 """
 
 import collections
@@ -46,9 +46,7 @@ SHOWN = 5  # runs of one document that are told
 
 
 def options(parser):
-    parser.add_argument(
-        "--tests", action="append", default=[], metavar="CRATE=PATH", help="another program of a crate's tests"
-    )
+    programs.tests_option(parser)
     parser.add_argument("--jobs", type=int, default=os.cpu_count(), help="how many runs are made side by side")
     parser.add_argument("--program", type=Path, metavar="PATH", help="another program than the built cm_main")
     parser.set_defaults(unproved=False)
@@ -123,20 +121,20 @@ def documents_tried(program, loaded):
         yield Tried(name, Refusing([program, *words], given, loaded), (ALONE, ON), is_so, whole)
 
 
-def tests_tried(others, loaded):
+def tests_tried(asked, loaded, tally):
+    """Gives the tests. One whose program is not there fails."""
     for crate, test in TESTS:
-        built = Path(others.get(crate, TOP / f"crates/{crate}/out/{crate}_tests"))
-        if built.exists():
-            yield Tried(f"{crate}: {test}", Refusing([built, test], b"", loaded), (ALONE,), is_right_or_wants)
+        name, (built, why) = f"{crate}: {test}", programs.tests(asked, crate)
+        if why:
+            tally.tell(name, why)
         else:
-            print(f"{built} is not there, so {test} is not run")
+            yield Tried(name, Refusing([built, test], b"", loaded), (ALONE,), is_right_or_wants)
 
 
 def main(asked):
     program, tally = programs.program(asked), Tally()
-    others = dict(it.split("=", 1) for it in asked.tests)
     with tempfile.TemporaryDirectory() as folder, concurrent.futures.ThreadPoolExecutor(asked.jobs) as pool:
         loaded = library(folder)
-        for tried in (*documents_tried(program, loaded), *tests_tried(others, loaded)):
+        for tried in (*documents_tried(program, loaded), *tests_tried(asked, loaded, tally)):
             tried.tell(tally, pool)
     return tally.end()

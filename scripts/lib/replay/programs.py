@@ -37,6 +37,19 @@ def drawer(asked):
     return there(asked.drawer or built(DRAWER, asked.unproved), "./try draw" if asked.unproved else "./draw")
 
 
+def tests_option(parser):
+    parser.add_argument(
+        "--tests", action="append", default=[], metavar="CRATE=PATH", help="another program of a crate's tests"
+    )
+
+
+def tests(asked, crate):
+    """The program of a crate's tests, and why it can't be run, or None."""
+    named = dict(it.split("=", 1) for it in asked.tests)
+    path = Path(named.get(crate, TOP / f"crates/{crate}/out/{crate}_tests"))
+    return path.resolve(), None if path.exists() else f"{path} is not there: `rt test {crate}` builds it"
+
+
 def there(path, maker):
     if not path.exists():
         sys.exit(f"{path} is not there: {maker} builds it")
