@@ -16,6 +16,8 @@ mod meeting;
 #[cfg(test)]
 mod ordered;
 #[cfg(test)]
+mod orders;
+#[cfg(test)]
 mod running;
 #[cfg(test)]
 mod waiting;
