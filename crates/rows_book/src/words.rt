@@ -237,6 +237,104 @@ fn hold_made<R: Threads + Wait + Sync>(rt: &R, alloc: Global, case: &str) -> Res
     hold_run(rt, alloc, given, "ok", summary)
 }
 
+/// How often the made document of one round is run live.
+const TIMES: u32 = 50;
+
+/// How often such a run calls pace and gate at least: ten cycles as above, and before and behind each of 21 lines. A
+/// line that waits calls the gate more often.
+const CALLS_OF_MADE: u64 = 10 + 3 * 10 + 2 * 21;
+
+/// What may differ between live runs of the made document of one round.
+#[derive(Clone, Copy)]
+struct Counts {
+    updates: u32,
+    done: u32,
+    ended: u32,
+    hundredths: u32,
+}
+
+#[test]
+fn a_made_document_is_run_live(rt: HostRuntime) -> Result<(), Fail> {
+    for _ in 0..TIMES {
+        hold_made_live(&rt, rt.alloc())?;
+    }
+    Ok(())
+}
+
+fn hold_made_live<R: Threads + Wait + Sync>(rt: &R, alloc: Global) -> Result<(), Fail> {
+    let words = words(alloc, "live|--make|1")?;
+    let mut source = MemSource::make(vec![in alloc]?, 1000, vec![in alloc]?);
+    let mut sink = ample_sink(alloc)?;
+    let blanks = blanks(alloc, IN_STOCK)?;
+    let ran = run_counted(rt, alloc, words.as_slice(), &mut source, &mut sink, blanks);
+    let calls = ran.calls;
+    let want = Want {
+        ended: "ok",
+        printed: "",
+        calls,
+    };
+    hold_ran(alloc, ran, &want)?;
+    if calls < CALLS_OF_MADE {
+        return Err(Fail::new("too few calls of pace and gate"));
+    }
+    hold_summary(alloc, str::from_utf8(sink.bytes())?)
+}
+
+/// Fails unless a live run of the made document of one round may have this summary.
+fn hold_summary(alloc: Global, summary: &str) -> Result<(), Fail> {
+    let counts = Counts {
+        updates: number_between(summary, "updates ", "\n")?,
+        done: number_between(summary, " done ", " refused")?,
+        ended: number_between(summary, " ended ", "\n")?,
+        hundredths: number_between(summary, "joint j1 0.0", "0000\n")?,
+    };
+    if !may_be(counts) {
+        return Err(Fail::new(String::from_str(alloc, summary)?));
+    }
+    let want = summary_with(alloc, counts)?;
+    hold_told(alloc, "a live run", summary, want.as_str())
+}
+
+/// The number between the first two such signs.
+fn number_between(text: &str, before: &str, behind: &str) -> Result<u32, Fail> {
+    let (_, rest) = halves(text, before)?;
+    let (number, _) = halves(rest, behind)?;
+    Ok(number.parse()?)
+}
+
+/// The session asks three times, each time behind the Told of the time before, so each begin decides one request. If
+/// the close decides one, it was the last. Behind the begin that does the first, `k`, cycles have eight updates each.
+/// They have seven from the second on, `m`, and eight again from the third on, `n`: so `8 (10 - k)`, less `10 - m` or
+/// `n - m`, for `k < m < n < 10`. Joint j1 moves by a hundredth in each cycle behind the first.
+fn may_be(counts: Counts) -> bool {
+    let fits = match counts.done {
+        0 => counts.updates == 0 && counts.hundredths == 0,
+        1 => 8 <= counts.updates && counts.updates <= 80 && counts.updates % 8 == 0,
+        2 => 15 <= counts.updates && counts.updates <= 79,
+        3 => 23 <= counts.updates && counts.updates <= 79 && counts.ended == 0,
+        _ => false,
+    };
+    fits && counts.ended <= 1 && counts.hundredths <= 9
+}
+
+/// The summary with these counts. The loop makes 21 entries, and the session one for each of its 21 lines and one for
+/// each ticket. A request behind the close has no ticket. None is refused, and no other joint moves.
+fn summary_with(alloc: Global, counts: Counts) -> Result<String, Fail> {
+    let Counts {
+        updates,
+        done,
+        ended,
+        hundredths,
+    } = counts;
+    let asks = done.saturating_add(ended);
+    let entries = asks.saturating_add(21 + 21);
+    let mut summary = format!(in alloc; "cycles 10\nentries {entries}\nupdates {updates}\n")?;
+    write!(summary, "asks {asks} done {done} refused 0 ended {ended}\n")?;
+    write!(summary, "joint j0 0.000000\njoint j1 0.0{hundredths}0000\n")?;
+    summary.push_str("<2..8 * joint j# 0.000000\n>")?;
+    expanded(alloc, summary.as_str())
+}
+
 /// How a run ends, what it prints, and how often it calls pace and gate.
 #[derive(Clone, Copy)]
 struct Want<'a> {
