@@ -53,12 +53,17 @@ impl Relations {
         ensures { IfOk result (λ relations. relations ≡ relations_of checked.now) }
     {
         let description = checked.description();
+        let heights = heights(alloc, checked)?;
+        let components = components(alloc, description)?;
+        let odds = odds(alloc, description.controllers.as_slice())?;
+        let followers = Links::followers_in(alloc, checked)?;
+        let leaders = Links::leaders_in(alloc, checked)?.in_sequence(alloc)?;
         Ok(Relations {
-            leaders: Links::leaders_in(alloc, checked)?.in_sequence(alloc)?,
-            followers: Links::followers_in(alloc, checked)?,
-            odds: odds(alloc, description.controllers.as_slice())?,
-            components: components(alloc, description)?,
-            heights: heights(alloc, checked)?,
+            leaders,
+            followers,
+            odds,
+            components,
+            heights,
         })
     }
 
