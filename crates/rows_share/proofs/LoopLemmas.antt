@@ -119,7 +119,7 @@ closes_so now stand so home unclosed =
 pub at_hand : (P : FlightFacts → Type 0) (o : Option FlightFacts) (f : FlightFacts) → o ≡ Some f → IfSome o P → P f
 at_hand P o f is all = subst (λ (k : Option FlightFacts). IfSome k P) is all
 
-not_at_hand : (P : FlightFacts → Type 0) (o : Option FlightFacts) → o ≡ None → IfSome o P
+pub not_at_hand : (P : FlightFacts → Type 0) (o : Option FlightFacts) → o ≡ None → IfSome o P
 not_at_hand P o none = subst (λ (k : Option FlightFacts). IfSome k P) (sym none) tt
 
 -- what is aloft is not home

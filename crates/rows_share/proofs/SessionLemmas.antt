@@ -3,7 +3,7 @@
 use Rattle.std.proofs.Common.{◌≡◌, ℕ, zero, suc, ◌+◌, ◌<◌, Bool, true, false, List, [], ◌∷◌}
 use Rattle.std.proofs.Common.{◌++◌, map, length, get_or, All, Contains, Option, Some, None}
 use Rattle.std.proofs.Common.{refl, sym, ap, subst, ◌∙◌, ◌⊎◌, inl, inr, ⊎_elim, arith}
-use Rattle.std.specs.Prelude.{MatchOption, IfSome}
+use Rattle.std.specs.Prelude.{MatchOption}
 use Rattle.std.proofs.lemmas.List.{get_or-map, length-map}
 use Rattle.std.proofs.lemmas.List.Elements.{All-cons, All-tail, All-contains}
 use Rattle.cm_document.specs.declared.call.Call.{Call}
@@ -31,6 +31,7 @@ use Rattle.shared_desk.specs.Calls.Sessions.{Calls, CallsWhere, LooksInVain}
 use Rattle.shared_desk.specs.Calls.Share.{Shares}
 use Rattle.shared_desk.specs.Passes.{history_of, IsSessionPass, IsLoopPass}
 use Rattle.shared_desk.specs.Turns.{TakesTurn, Stays}
+use Rattle.rows_share.proofs.LoopLemmas.{not_at_hand}
 use Rattle.rows_share.specs.Loops.{StandsSo, IsLoopOf, AreSessions}
 use Rattle.rows_share.specs.declared.stand.Stand.{Stand}
 
@@ -139,7 +140,7 @@ module _ {K : Type 0} {g : Ghosts K Entry State} (lock : TurnLock K Entry State)
             (subst (λ (st : Stand). StandsSo (stand_of first looping) st) (sym so)
             (stands_at_boot d blanks sessions desk looping passes booted shares));
         home = λ home. none;
-        at_hand = subst (λ (o : Option FlightFacts). IfSome o (IsAtHand (history_of first.opening p))) (sym none) tt;
+        at_hand = not_at_hand (IsAtHand (history_of first.opening p)) flight none;
       }
 
   -- ---- It comes home
