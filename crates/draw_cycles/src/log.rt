@@ -134,22 +134,27 @@ fn draw_facts(
     answered: &Answered<'_>,
 ) -> Result<(), Memory> {
     if let Some(ticket) = answered.ticket {
-        let text = format!(in alloc; "{ticket}")?;
-        svg.words("row", at(TICKET, y), text.as_str(), "")?;
+        draw_number(alloc, svg, at(TICKET, y), u64::from(ticket))?;
     }
-    let cycle = answered.cycle;
-    let text = if cycle < cycles {
-        format!(in alloc; "{cycle}")?
+    if answered.cycle < cycles {
+        draw_number(alloc, svg, at(CYCLE, y), answered.cycle)?;
     } else {
-        format!(in alloc; "close")?
-    };
-    svg.words("row", at(CYCLE, y), text.as_str(), "")?;
-    if let Some(asked) = answered.asked {
-        let name = asked.who.as_str();
-        let who = shortened(alloc, name, MOST_LETTERS)?;
-        svg.words("row", at(WHO, y), who.as_str(), name)?;
+        svg.words("row", at(CYCLE, y), "close", "")?;
     }
-    Ok(())
+    match answered.asked {
+        Some(asked) => draw_who(alloc, svg, at(WHO, y), asked.who.as_str()),
+        None => Ok(()),
+    }
+}
+
+fn draw_number(alloc: Global, svg: &mut Svg, at: PagePoint, number: u64) -> Result<(), Memory> {
+    let text = format!(in alloc; "{number}")?;
+    svg.words("row", at, text.as_str(), "")
+}
+
+fn draw_who(alloc: Global, svg: &mut Svg, at: PagePoint, name: &str) -> Result<(), Memory> {
+    let who = shortened(alloc, name, MOST_LETTERS)?;
+    svg.words("row", at, who.as_str(), name)
 }
 
 /// Draws how many there are more, and gives where that ends.

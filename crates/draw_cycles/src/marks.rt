@@ -13,36 +13,38 @@ pub fn draw_mark(
     event: Event,
     title: &str,
 ) -> Result<(), Memory> {
-    let (x, y) = (at.x, at.y);
     match event {
         Event::Nothing => Ok(()),
-        Event::Done => {
-            let steps = format!(in alloc; "M{x} {y}m-5 0l4 4l7 -9")?;
-            draw_disc(svg, at, "done-disc", "tick", steps.as_str(), title)
-        }
-        Event::Partly => {
-            let steps = format!(in alloc; "M{x} {y}m-5 1q2.5 -6 5 -1t5 -1")?;
-            draw_disc(svg, at, "partly-disc", "tick", steps.as_str(), title)
-        }
-        Event::Refused => {
-            let steps = format!(in alloc; "M{x} {y}m-4 -4l8 8m0 -8l-8 8")?;
-            draw_disc(svg, at, "bad-disc", "cross", steps.as_str(), title)
-        }
-        Event::Ended => {
-            let steps = format!(in alloc; "M{x} {y}m-5 0h10")?;
-            draw_disc(svg, at, "bad-disc", "cross", steps.as_str(), title)
-        }
-        Event::Stopped => {
-            let steps = format!(in alloc; "M{x} {y}m-6 -6h12v12h-12z")?;
-            svg.path("stop", steps.as_str(), title)
-        }
+        Event::Done => draw_disc(alloc, svg, at, "done-disc", "tick", "m-5 0l4 4l7 -9", title),
+        Event::Partly => draw_disc(
+            alloc,
+            svg,
+            at,
+            "partly-disc",
+            "tick",
+            "m-5 1q2.5 -6 5 -1t5 -1",
+            title,
+        ),
+        Event::Refused => draw_disc(
+            alloc,
+            svg,
+            at,
+            "bad-disc",
+            "cross",
+            "m-4 -4l8 8m0 -8l-8 8",
+            title,
+        ),
+        Event::Ended => draw_disc(alloc, svg, at, "bad-disc", "cross", "m-5 0h10", title),
+        Event::Stopped => draw_path(alloc, svg, at, "stop", "m-6 -6h12v12h-12z", title),
         Event::UpdateFailed => draw_failure(alloc, svg, at, "U", title),
         Event::WriteFailed => draw_failure(alloc, svg, at, "W", title),
         Event::ReadFailed => draw_failure(alloc, svg, at, "R", title),
     }
 }
 
+/// A sign on a disc, by their classes, and the steps of the sign from the middle on.
 fn draw_disc(
+    alloc: Global,
     svg: &mut Svg,
     at: PagePoint,
     disc: &str,
@@ -51,7 +53,21 @@ fn draw_disc(
     title: &str,
 ) -> Result<(), Memory> {
     svg.circle(disc, at, 8, title)?;
-    svg.path(sign, steps, title)
+    draw_path(alloc, svg, at, sign, steps, title)
+}
+
+/// A path of these steps from a point on.
+fn draw_path(
+    alloc: Global,
+    svg: &mut Svg,
+    from: PagePoint,
+    class: &str,
+    steps: &str,
+    title: &str,
+) -> Result<(), Memory> {
+    let (x, y) = (from.x, from.y);
+    let path = format!(in alloc; "M{x} {y}{steps}")?;
+    svg.path(class, path.as_str(), title)
 }
 
 /// A triangle with the letter of what failed.
@@ -62,8 +78,6 @@ fn draw_failure(
     letter: &str,
     title: &str,
 ) -> Result<(), Memory> {
-    let (x, y) = (at.x, at.y);
-    let steps = format!(in alloc; "M{x} {y}m0 -11l11 19h-22z")?;
-    svg.path("failure", steps.as_str(), title)?;
+    draw_path(alloc, svg, at, "failure", "m0 -11l11 19h-22z", title)?;
     svg.words("letter", at.beside(Px::of(0), Px::of(6)), letter, title)
 }

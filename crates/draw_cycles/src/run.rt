@@ -64,25 +64,48 @@ fn height(run: Run<'_>) -> Px {
 fn draw_rows(alloc: Global, svg: &mut Svg, top: Px, run: Run<'_>) -> Result<(), Memory> {
     draw_row(alloc, svg, top, run, "requests", &run.replay.requests)?;
     let heading = top.plus(Px::of(ROW_HEIGHT));
-    draw_heading(svg, heading, "controllers")?;
-    let mut y = heading.plus(Px::of(HEADING_HEIGHT));
-    let controllers = run.description.controllers.as_slice();
-    for (row, controller) in run.replay.controllers.iter().zip(controllers) {
-        draw_row(alloc, svg, y, run, controller.name.as_str(), row)?;
-        y = y.plus(Px::of(ROW_HEIGHT));
+    draw_controllers(alloc, svg, heading, run)?;
+    let end = row_top(heading, run.replay.controllers.len());
+    draw_components(alloc, svg, end, run)
+}
+
+fn draw_controllers(alloc: Global, svg: &mut Svg, top: Px, run: Run<'_>) -> Result<(), Memory> {
+    draw_heading(svg, top, "controllers")?;
+    for (place, row) in run.replay.controllers.iter().enumerate() {
+        let name = controller_name(run.description, place);
+        draw_row(alloc, svg, row_top(top, place), run, name, row)?;
     }
-    draw_components(alloc, svg, y, run)
+    Ok(())
 }
 
 fn draw_components(alloc: Global, svg: &mut Svg, top: Px, run: Run<'_>) -> Result<(), Memory> {
     draw_heading(svg, top, "hardware")?;
-    let mut y = top.plus(Px::of(HEADING_HEIGHT));
-    let components = run.description.components.as_slice();
-    for (row, component) in run.replay.components.iter().zip(components) {
-        draw_row(alloc, svg, y, run, component.name.as_str(), row)?;
-        y = y.plus(Px::of(ROW_HEIGHT));
+    for (place, row) in run.replay.components.iter().enumerate() {
+        let name = component_name(run.description, place);
+        draw_row(alloc, svg, row_top(top, place), run, name, row)?;
     }
     Ok(())
+}
+
+fn controller_name(description: &Description, place: usize) -> &str {
+    match description.controllers.as_slice().get(place) {
+        Some(controller) => controller.name.as_str(),
+        None => "",
+    }
+}
+
+fn component_name(description: &Description, place: usize) -> &str {
+    match description.components.as_slice().get(place) {
+        Some(component) => component.name.as_str(),
+        None => "",
+    }
+}
+
+/// Where the row of this place begins, below a heading that begins at this height.
+fn row_top(heading: Px, place: usize) -> Px {
+    heading
+        .plus(Px::of(HEADING_HEIGHT))
+        .plus(Px::of(ROW_HEIGHT).times(place))
 }
 
 fn draw_heading(svg: &mut Svg, top: Px, words: &str) -> Result<(), Memory> {
@@ -102,13 +125,7 @@ fn draw_row(
     name: &str,
     row: &Row,
 ) -> Result<(), Memory> {
-    let room = run.strip.left().minus(Px::of(MARGIN + 8)).room();
-    let text = shortened(alloc, name, room)?;
-    let at = PagePoint {
-        x: Px::of(MARGIN),
-        y: top.plus(Px::of(18)),
-    };
-    svg.words("row", at, text.as_str(), name)?;
+    draw_row_name(alloc, svg, top, run, name)?;
     let marks = marks_of(alloc, &run.strip, row)?;
     let barred = Barred {
         strip: &run.strip,
@@ -118,13 +135,42 @@ fn draw_row(
         marks: marks.as_slice(),
     };
     draw_bars(alloc, svg, barred)?;
-    for mark in &marks {
+    draw_marks(alloc, svg, top, run, name, row, marks.as_slice())
+}
+
+fn draw_row_name(
+    alloc: Global,
+    svg: &mut Svg,
+    top: Px,
+    run: Run<'_>,
+    name: &str,
+) -> Result<(), Memory> {
+    let room = run.strip.left().minus(Px::of(MARGIN + 8)).room();
+    let text = shortened(alloc, name, room)?;
+    let at = PagePoint {
+        x: Px::of(MARGIN),
+        y: top.plus(Px::of(18)),
+    };
+    svg.words("row", at, text.as_str(), name)
+}
+
+// ---- What happened
+
+/// What happened, above what a row was.
+fn draw_marks(
+    alloc: Global,
+    svg: &mut Svg,
+    top: Px,
+    run: Run<'_>,
+    name: &str,
+    row: &Row,
+    marks: &[Placed],
+) -> Result<(), Memory> {
+    for mark in marks {
         draw_placed(alloc, svg, top, run, name, row, mark)?;
     }
     Ok(())
 }
-
-// ---- What happened
 
 fn draw_placed(
     alloc: Global,
@@ -160,15 +206,22 @@ fn mark_title(
     cell: &RowCell,
 ) -> Result<String, Memory> {
     let mut title = event_title(alloc, run, name, mark.event, cell)?;
-    if mark.count > 1 {
-        let (first, _) = run.strip.columns.cycles_of(mark.first);
-        let (_, last) = run.strip.columns.cycles_of(mark.last);
-        let more = mark.count.saturating_sub(1);
-        write!(title, " (and {more} more in ")?;
-        push_cycles(&mut title, first, last)?;
-        title.push_str(")")?;
-    }
+    push_more(&mut title, run, mark)?;
     Ok(title)
+}
+
+/// Appends how much more happened, in which cycles.
+fn push_more(title: &mut String, run: Run<'_>, mark: &Placed) -> Result<(), Memory> {
+    if mark.count <= 1 {
+        return Ok(());
+    }
+    let (first, _) = run.strip.columns.cycles_of(mark.first);
+    let (_, last) = run.strip.columns.cycles_of(mark.last);
+    let more = mark.count.saturating_sub(1);
+    write!(title, " (and {more} more in ")?;
+    push_cycles(title, first, last)?;
+    title.push_str(")")?;
+    Ok(())
 }
 
 fn event_title(
@@ -179,19 +232,25 @@ fn event_title(
     cell: &RowCell,
 ) -> Result<String, Memory> {
     let cycle = cell.cycle;
-    let title = match (event, cell.stopped) {
-        (Event::Stopped, Some(at)) => {
-            format!(in alloc; "{name}: stopped at the end of cycle {at}")?
-        }
-        (Event::UpdateFailed, _) => failure_title(alloc, name, Failure::Update, cycle)?,
-        (Event::WriteFailed, _) => failure_title(alloc, name, Failure::Write, cycle)?,
-        (Event::ReadFailed, _) => failure_title(alloc, name, Failure::Read, cycle)?,
+    match (event, cell.stopped) {
+        (Event::Stopped, Some(at)) => stop_title(alloc, name, at),
+        (Event::UpdateFailed, _) => failure_title(alloc, name, Failure::Update, cycle),
+        (Event::WriteFailed, _) => failure_title(alloc, name, Failure::Write, cycle),
+        (Event::ReadFailed, _) => failure_title(alloc, name, Failure::Read, cycle),
         _ => match answered_in(run, cell) {
-            Some(answered) => answered_title(alloc, answered)?,
-            None => format!(in alloc; "{name}: cycle {cycle}")?,
+            Some(answered) => answered_title(alloc, answered),
+            None => cycle_title(alloc, name, cycle),
         },
-    };
-    Ok(title)
+    }
+}
+
+/// Who was stopped, and when.
+fn stop_title(alloc: Global, name: &str, cycle: u64) -> Result<String, Memory> {
+    Ok(format!(in alloc; "{name}: stopped at the end of cycle {cycle}")?)
+}
+
+fn cycle_title(alloc: Global, name: &str, cycle: u64) -> Result<String, Memory> {
+    Ok(format!(in alloc; "{name}: cycle {cycle}")?)
 }
 
 /// The call by which the most serious happened in a column, if it was one.
@@ -218,10 +277,9 @@ fn draw_tickets(alloc: Global, svg: &mut Svg, top: Px, run: Run<'_>) -> Result<(
         return Ok(());
     }
     let row = &run.replay.requests;
-    for mark in &marks_of(alloc, &run.strip, row)? {
-        if let Some(cell) = row.cells().get(mark.column) {
-            draw_ticket(alloc, svg, top, run, mark, cell)?;
-        }
+    let marks = marks_of(alloc, &run.strip, row)?;
+    for mark in &marks {
+        draw_ticket(alloc, svg, top, run, mark)?;
     }
     Ok(())
 }
@@ -232,18 +290,26 @@ fn draw_ticket(
     top: Px,
     run: Run<'_>,
     mark: &Placed,
-    cell: &RowCell,
 ) -> Result<(), Memory> {
-    let ticket = answered_in(run, cell).and_then(|it| it.ticket);
-    let count = mark.count;
-    let text = match ticket {
-        Some(ticket) if count == 1 => format!(in alloc; "{ticket}")?,
-        None if count == 1 => return Ok(()),
-        _ => format!(in alloc; "×{count}")?,
+    let Some(cell) = run.replay.requests.cells().get(mark.column) else {
+        return Ok(());
     };
+    let ticket = answered_in(run, cell).and_then(|it| it.ticket);
+    if ticket.is_none() && mark.count == 1 {
+        return Ok(());
+    }
+    let text = ticket_text(alloc, ticket, mark.count)?;
     let at = PagePoint {
         x: mark.right(),
         y: top.plus(Px::of(18)),
     };
     svg.words("dim", at, text.as_str(), "")
+}
+
+/// The ticket of one request, or how many requests these are.
+fn ticket_text(alloc: Global, ticket: Option<u32>, count: u64) -> Result<String, Memory> {
+    match ticket {
+        Some(ticket) if count == 1 => Ok(format!(in alloc; "{ticket}")?),
+        _ => Ok(format!(in alloc; "×{count}")?),
+    }
 }

@@ -3,11 +3,12 @@
 use crate::causes::{push_answered, push_asked, push_fallback, push_when};
 use cm_model::{Dropped, Outcome};
 use draw_causes::{
-    CLOSED_MEND, failure_mend, failure_words, push_cause, push_cause_mend, push_fallback_mend,
-    push_stop, push_stop_mend, why_mend,
+    CLOSED_MEND, Failure, StopKind, failure_mend, failure_words, push_cause, push_cause_mend,
+    push_fallback_mend, push_stop, push_stop_mend, why_mend,
 };
 use draw_replay::{Answered, Became, Incident, Replay};
 use fixed_num::Memory;
+use iface_names::Name;
 
 /// What is told if there is nothing to tell.
 const NOTHING: &str = "Nothing was refused, left out or stopped, and nothing failed.\n";
@@ -40,26 +41,38 @@ fn push_incident(
             cycle,
             name,
             failure,
-        } => {
-            let words = failure_words(failure);
-            let mend = failure_mend(failure);
-            write!(text, "cycle {cycle}, {name}: {words}{MEND}{mend}\n")?;
-            Ok(())
-        }
+        } => push_failed(text, cycle, name, failure),
         Incident::Stopped {
             cycle,
             name,
             kind,
             because_of,
-        } => {
-            write!(text, "cycle {cycle}, {name}: stopped, ")?;
-            push_stop(text, kind, because_of)?;
-            text.push_str(MEND)?;
-            push_stop_mend(text, name, kind, because_of)?;
-            text.push_str("\n")?;
-            Ok(())
-        }
+        } => push_stopped(text, cycle, name, kind, because_of),
     }
+}
+
+/// Appends what failed.
+fn push_failed(text: &mut String, cycle: u64, name: &Name, failure: Failure) -> Result<(), Memory> {
+    let words = failure_words(failure);
+    let mend = failure_mend(failure);
+    write!(text, "cycle {cycle}, {name}: {words}{MEND}{mend}\n")?;
+    Ok(())
+}
+
+/// Appends who was stopped, and why.
+fn push_stopped(
+    text: &mut String,
+    cycle: u64,
+    name: &Name,
+    kind: StopKind,
+    because_of: &Name,
+) -> Result<(), Memory> {
+    write!(text, "cycle {cycle}, {name}: stopped, ")?;
+    push_stop(text, kind, because_of)?;
+    text.push_str(MEND)?;
+    push_stop_mend(text, name, kind, because_of)?;
+    text.push_str("\n")?;
+    Ok(())
 }
 
 /// Appends why a request was not wholly carried out, or why a call did nothing.
