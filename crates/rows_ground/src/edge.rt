@@ -4,24 +4,34 @@ mod answers;
 mod gathered;
 mod std_edge;
 
-use outside_io::{Failed, MemSink, MemSource, Sink, Source, read_whole, write_whole};
+use outside_io::{
+    Failed, MemSink, MemSource, ReadFault, Sink, Source, StdSink, read_whole, write_whole,
+};
 use pages_cases::pages::{Teller, halves, hold_lines, push_parted};
 use pages_cases::words::part;
 use std::alloc::Global;
+use std::io::Write;
 use std::str;
 use std::test::Fail;
 
 /// The numbers between single spaces; of an empty text none.
 fn numbers(alloc: Global, text: &str) -> Result<Vec<u64>, Fail> {
     let mut numbers = Vec::new(alloc);
-    for word in text.split_whitespace() {
-        numbers.push(number_of(word)?)?;
-    }
+    push_numbers(&mut numbers, text)?;
     Ok(numbers)
 }
 
-fn number_of(word: &str) -> Result<u64, Fail> {
-    Ok(word.parse()?)
+fn push_numbers(numbers: &mut Vec<u64>, text: &str) -> Result<(), Fail> {
+    for word in text.split_whitespace() {
+        push_number(numbers, word)?;
+    }
+    Ok(())
+}
+
+fn push_number(numbers: &mut Vec<u64>, word: &str) -> Result<(), Fail> {
+    let number = word.parse()?;
+    numbers.push(number)?;
+    Ok(())
 }
 
 /// A source in memory, of `STEP | FAILING READS | BYTES`.
@@ -30,19 +40,19 @@ fn source_of(alloc: Global, row: &str) -> Result<MemSource, Fail> {
     if step == 0 {
         return Err(Fail::new("a step of none"));
     }
-    let fails = numbers(alloc, part(row, 1))?;
     let bytes = part(row, 2).as_bytes().to_vec(alloc)?;
+    let fails = numbers(alloc, part(row, 1))?;
     Ok(MemSource::make(bytes, step, fails))
 }
 
 /// A sink in memory, of `ROOM | STEP | FAILING CALLS`.
 fn sink_of(alloc: Global, row: &str) -> Result<MemSink, Fail> {
+    let room = part(row, 0).parse()?;
     let step: usize = part(row, 1).parse()?;
     if step == 0 {
         return Err(Fail::new("a step of none"));
     }
-    let fails = numbers(alloc, part(row, 2))?;
-    Ok(MemSink::make(alloc, part(row, 0).parse()?, step, fails)?)
+    Ok(MemSink::make(alloc, room, step, numbers(alloc, part(row, 2))?)?)
 }
 
 /// Tells what five reads of four bytes give of a source in memory, each with all of the buffer, in which dots stand
@@ -52,14 +62,19 @@ struct FiveReads;
 
 impl Teller for FiveReads {
     fn told(&self, alloc: Global, row: &str) -> Result<String, Fail> {
-        let mut source = source_of(alloc, row.trim_end())?;
-        let mut buffer = [b'.'; 4];
         let mut answers = String::new(alloc);
-        for _ in 0..5 {
-            push_read(&mut answers, &mut source, &mut buffer)?;
-        }
+        push_five(alloc, &mut answers, row.trim_end())?;
         Ok(answers)
     }
+}
+
+fn push_five(alloc: Global, answers: &mut String, row: &str) -> Result<(), Fail> {
+    let mut source = source_of(alloc, row)?;
+    let mut buffer = [b'.'; 4];
+    for _ in 0..5 {
+        push_read(answers, &mut source, &mut buffer)?;
+    }
+    Ok(())
 }
 
 fn push_read<S: Source>(
@@ -67,17 +82,29 @@ fn push_read<S: Source>(
     source: &mut S,
     buffer: &mut [u8],
 ) -> Result<(), Fail> {
-    match source.read(buffer) {
-        Ok(count) => push_count(answers, count)?,
-        Err(Failed) => push_parted(answers, ", ", "failed")?,
+    push_answer(answers, source.read(buffer))?;
+    push_bytes(answers, " ", buffer)
+}
+
+/// Appends how many bytes were taken, or that the call failed.
+fn push_answer(answers: &mut String, answer: Result<usize, Failed>) -> Result<(), Fail> {
+    match answer {
+        Ok(count) => push_count(answers, count),
+        Err(Failed) => push_parted(answers, ", ", "failed"),
     }
-    push_parted(answers, " ", str::from_utf8(buffer)?)
+}
+
+fn push_bytes(answers: &mut String, sign: &str, bytes: &[u8]) -> Result<(), Fail> {
+    push_parted(answers, sign, str::from_utf8(bytes)?)
 }
 
 fn push_count(answers: &mut String, count: usize) -> Result<(), Fail> {
     push_parted(answers, ", ", "")?;
-    write!(answers, "{count}")?;
-    Ok(())
+    push_written(answers, count)
+}
+
+fn push_written(answers: &mut String, count: usize) -> Result<(), Fail> {
+    Ok(write!(answers, "{count}")?)
 }
 
 /// Tells what writes and flushes give of a sink in memory, `ROOM | STEP | FAILING CALLS | PIECES`; and then all that it
@@ -87,14 +114,26 @@ struct Writes;
 
 impl Teller for Writes {
     fn told(&self, alloc: Global, row: &str) -> Result<String, Fail> {
-        let row = row.trim_end();
-        let mut sink = sink_of(alloc, row)?;
         let mut answers = String::new(alloc);
-        push_calls(&mut answers, &mut sink, part(row, 3))?;
-        answers.push_str(": ")?;
-        answers.push_str(str::from_utf8(sink.bytes())?)?;
+        push_writes(alloc, &mut answers, row.trim_end())?;
         Ok(answers)
     }
+}
+
+fn push_writes(alloc: Global, answers: &mut String, row: &str) -> Result<(), Fail> {
+    let mut sink = sink_of(alloc, row)?;
+    push_calls(answers, &mut sink, part(row, 3))?;
+    push_bytes(answers, ": ", sink.bytes())
+}
+
+/// Appends what a sink over a writer of std answers to pieces, between which strokes stand.
+fn push_calls_over<W: Write + Drop>(
+    answers: &mut String,
+    writer: W,
+    pieces: &str,
+) -> Result<(), Fail> {
+    let mut sink = StdSink::make(writer);
+    push_calls(answers, &mut sink, pieces)
 }
 
 /// Appends what a sink answers to pieces, between which strokes stand.
@@ -113,10 +152,7 @@ fn push_call<S: Sink>(answers: &mut String, sink: &mut S, piece: &str) -> Result
     if let Some(piece) = piece.strip_prefix("all ") {
         return push_end(answers, "all", write_whole(sink, piece.as_bytes()));
     }
-    match sink.write(piece.as_bytes()) {
-        Ok(count) => push_count(answers, count),
-        Err(Failed) => push_parted(answers, ", ", "failed"),
-    }
+    push_answer(answers, sink.write(piece.as_bytes()))
 }
 
 /// Appends a word where all went well.
@@ -133,14 +169,30 @@ struct WholeRead;
 
 impl Teller for WholeRead {
     fn told(&self, alloc: Global, row: &str) -> Result<String, Fail> {
-        let (limit, source) = halves(row.trim_end(), " | ")?;
-        let mut source = source_of(alloc, source)?;
-        let limit: u32 = limit.parse()?;
-        match read_whole(alloc, &mut source, limit as usize) {
-            Ok(bytes) => Ok(String::from_str(alloc, str::from_utf8(bytes.as_slice())?)?),
-            Err(fault) => Ok(format!(in alloc; "{fault}")?),
-        }
+        let mut told = String::new(alloc);
+        push_whole_read(alloc, &mut told, row.trim_end())?;
+        Ok(told)
     }
+}
+
+fn push_whole_read(alloc: Global, told: &mut String, row: &str) -> Result<(), Fail> {
+    let (limit, source) = halves(row, " | ")?;
+    let limit: u32 = limit.parse()?;
+    let mut source = source_of(alloc, source)?;
+    push_whole(told, read_whole(alloc, &mut source, limit as usize))
+}
+
+/// Appends what a whole read gave.
+fn push_whole(told: &mut String, read: Result<Vec<u8>, ReadFault>) -> Result<(), Fail> {
+    match read {
+        Ok(bytes) => push_bytes(told, ", ", bytes.as_slice()),
+        Err(fault) => push_fault(told, fault),
+    }
+}
+
+fn push_fault(told: &mut String, fault: ReadFault) -> Result<(), Fail> {
+    push_parted(told, ", ", "")?;
+    Ok(write!(told, "{fault}")?)
 }
 
 #[test]

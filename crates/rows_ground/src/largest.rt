@@ -13,10 +13,14 @@ const LONGEST: usize = 1_048_576;
 #[test]
 fn the_largest_read(rt: HostRuntime) -> Result<(), Fail> {
     let alloc = rt.alloc();
-    let mut source = MemSource::make(many_bytes(alloc)?, LONGEST, vec![in alloc]?);
-    let read = read_whole(alloc, &mut source, LONGEST)?;
-    let sum = count_and_checksum(alloc, read.as_slice())?;
-    hold_told(alloc, "the bytes", sum.as_str(), BYTES)
+    let read = read_back(alloc)?;
+    hold_bytes(alloc, read.as_slice(), BYTES)
+}
+
+/// Many bytes, through a source.
+fn read_back(alloc: Global) -> Result<Vec<u8>, Fail> {
+    let mut source = MemSource::make(many_bytes(alloc)?, LONGEST, Vec::new(alloc));
+    Ok(read_whole(alloc, &mut source, LONGEST)?)
 }
 
 fn many_bytes(alloc: Global) -> Result<Vec<u8>, Fail> {
@@ -30,12 +34,17 @@ fn many_bytes(alloc: Global) -> Result<Vec<u8>, Fail> {
 #[test]
 fn the_largest_write(rt: HostRuntime) -> Result<(), Fail> {
     let alloc = rt.alloc();
-    let mut sink = MemSink::make(alloc, 4 * LONGEST, 1000, vec![in alloc]?)?;
+    let mut sink = MemSink::make(alloc, 4 * LONGEST, 1000, Vec::new(alloc))?;
     for _ in 0..4096 {
         write_whole(&mut sink, &[b'x'; 1024])?;
     }
-    let sum = count_and_checksum(alloc, sink.bytes())?;
-    hold_told(alloc, "the bytes", sum.as_str(), TAKEN)
+    hold_bytes(alloc, sink.bytes(), TAKEN)
+}
+
+/// Fails where these are other bytes than it is told.
+fn hold_bytes(alloc: Global, bytes: &[u8], told: &str) -> Result<(), Fail> {
+    let sum = count_and_checksum(alloc, bytes)?;
+    hold_told(alloc, "the bytes", sum.as_str(), told)
 }
 
 /// What was read, and what was taken.

@@ -4,6 +4,7 @@ use iface_names::{IfaceName, Name};
 use pages_cases::pages::{Teller, hold_lines, joined};
 use pages_cases::words::between_bars;
 use std::alloc::Global;
+use std::fmt::Display;
 use std::test::Fail;
 
 /// Tells the name that a text between bars is, or why it is none.
@@ -13,10 +14,14 @@ struct Names;
 impl Teller for Names {
     fn told(&self, alloc: Global, row: &str) -> Result<String, Fail> {
         match Name::read(alloc, between_bars(row).as_bytes()) {
-            Ok(name) => Ok(format!(in alloc; "{name}")?),
-            Err(fault) => Ok(format!(in alloc; "{fault}")?),
+            Ok(name) => printed(alloc, &name),
+            Err(fault) => printed(alloc, &fault),
         }
     }
+}
+
+fn printed<T: Display>(alloc: Global, shown: &T) -> Result<String, Fail> {
+    Ok(format!(in alloc; "{shown}")?)
 }
 
 /// Tells the parts of the interface that a text between bars is, or why it is none, and whether it prints as that text.
@@ -28,13 +33,13 @@ impl Teller for Interfaces {
         let text = between_bars(row);
         match IfaceName::read(alloc, text.as_bytes()) {
             Ok(interface) => shown(alloc, text, &interface),
-            Err(fault) => Ok(format!(in alloc; "{fault}")?),
+            Err(fault) => printed(alloc, &fault),
         }
     }
 }
 
 fn shown(alloc: Global, text: &str, interface: &IfaceName) -> Result<String, Fail> {
-    let printed = format!(in alloc; "{interface}")?;
+    let printed = printed(alloc, interface)?;
     if printed.as_str() != text || interface.clone()? != *interface {
         return joined(alloc, "prints as ", printed.as_str());
     }

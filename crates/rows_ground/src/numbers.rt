@@ -127,13 +127,10 @@ at -1500000 7 => at -1.500000 and 0.000007";
 
 #[test]
 fn numbers_come_to_what_is_told(rt: HostRuntime) -> Result<(), Fail> {
-    let alloc = rt.alloc();
-    hold_lines(alloc, &Numbers, "", CONSTANTS)?;
-    hold_lines(alloc, &Numbers, "", RANGE)?;
-    hold_lines(alloc, &Numbers, "", SUMS)?;
-    hold_lines(alloc, &Numbers, "", PRODUCTS)?;
-    hold_lines(alloc, &Numbers, "", RATIOS)?;
-    hold_lines(alloc, &Numbers, "", LIMITS)
+    for page in [CONSTANTS, RANGE, SUMS, PRODUCTS, RATIOS, LIMITS] {
+        hold_lines(rt.alloc(), &Numbers, "", page)?;
+    }
+    Ok(())
 }
 
 #[test]
@@ -172,17 +169,17 @@ fn calculated(question: &str) -> Result<Fx, Fail> {
     let left = number(question, 0)?;
     match word(question, 1) {
         "by" => ratio(left, whole(question, 2)?, whole(question, 4)?),
-        "within" => within(left, number(question, 2)?),
-        sign => Ok(together(left, sign, number(question, 2)?)),
+        sign => together(left, sign, number(question, 2)?),
     }
 }
 
 /// Two numbers as one.
-fn together(left: Fx, sign: &str, right: Fx) -> Fx {
+fn together(left: Fx, sign: &str, right: Fx) -> Result<Fx, Fail> {
     match sign {
-        "plus" => left.add(right),
-        "less" => left.sub(right),
-        _ => left.mul(right),
+        "within" => within(left, right),
+        "plus" => Ok(left.add(right)),
+        "less" => Ok(left.sub(right)),
+        _ => Ok(left.mul(right)),
     }
 }
 
@@ -230,8 +227,16 @@ impl Teller for Prints {
 
 fn appended(alloc: Global, first: Fx, second: Fx) -> Result<String, Fail> {
     let mut bytes = Vec::from_slice(alloc, b"at ")?;
-    first.push_text(&mut bytes)?;
+    push_both(&mut bytes, first, second)?;
+    text(alloc, bytes.as_slice())
+}
+
+fn push_both(bytes: &mut Vec<u8>, first: Fx, second: Fx) -> Result<(), Fail> {
+    first.push_text(bytes)?;
     bytes.extend_from_slice(b" and ")?;
-    second.push_text(&mut bytes)?;
-    Ok(String::from_str(alloc, str::from_utf8(bytes.as_slice())?)?)
+    Ok(second.push_text(bytes)?)
+}
+
+fn text(alloc: Global, bytes: &[u8]) -> Result<String, Fail> {
+    Ok(String::from_str(alloc, str::from_utf8(bytes)?)?)
 }

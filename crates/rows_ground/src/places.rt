@@ -3,6 +3,7 @@
 use iface_names::{IfaceName, Registry};
 use pages_cases::pages::{Teller, halves, hold, push_parted};
 use std::alloc::Global;
+use std::fmt::Display;
 use std::test::Fail;
 
 /// Tells what a registry answers. The first line of a paragraph is the most that it has room for; each further line is
@@ -13,49 +14,76 @@ struct Registries;
 impl Teller for Registries {
     fn told(&self, alloc: Global, text: &str) -> Result<String, Fail> {
         let (room, calls) = halves(text, "\n")?;
-        let mut registry = Registry::make(alloc, room.parse()?);
+        let room = room.parse()?;
         let mut answers = String::new(alloc);
-        for call in calls.lines() {
-            let answer = answered(alloc, &mut registry, call)?;
-            push_parted(&mut answers, "; ", answer.as_str())?;
-        }
+        push_answers(alloc, &mut answers, room, calls)?;
         Ok(answers)
     }
 }
 
-/// What the registry answers to a call.
-fn answered(alloc: Global, registry: &mut Registry, call: &str) -> Result<String, Fail> {
+/// Appends what a registry with this room answers to calls.
+fn push_answers(alloc: Global, answers: &mut String, room: u32, calls: &str) -> Result<(), Fail> {
+    let mut registry = Registry::make(alloc, room);
+    for call in calls.lines() {
+        push_answer(alloc, answers, &mut registry, call)?;
+    }
+    Ok(())
+}
+
+fn push_answer(
+    alloc: Global,
+    answers: &mut String,
+    registry: &mut Registry,
+    call: &str,
+) -> Result<(), Fail> {
     let (verb, what) = halves(call, " ")?;
     match verb {
-        "at" => interface_at(alloc, registry, what.parse()?),
-        "place" => place_of(alloc, registry, what),
-        _ => added(alloc, registry, what),
+        "at" => push_interface(answers, registry, what),
+        "place" => push_place(alloc, answers, registry, what),
+        _ => push_added(alloc, answers, registry, what),
     }
 }
 
-fn interface_at(alloc: Global, registry: &Registry, place: u32) -> Result<String, Fail> {
-    match registry.at(place) {
-        Some(interface) => Ok(format!(in alloc; "{interface}")?),
-        None => Ok(String::from_str(alloc, "none")?),
+/// Appends the interface at a place.
+fn push_interface(answers: &mut String, registry: &Registry, place: &str) -> Result<(), Fail> {
+    match registry.at(place.parse()?) {
+        Some(interface) => push_shown(answers, interface),
+        None => push_parted(answers, "; ", "none"),
     }
 }
 
-fn place_of(alloc: Global, registry: &Registry, text: &str) -> Result<String, Fail> {
+/// Appends the place of an interface.
+fn push_place(
+    alloc: Global,
+    answers: &mut String,
+    registry: &Registry,
+    text: &str,
+) -> Result<(), Fail> {
     let interface = IfaceName::read(alloc, text.as_bytes())?;
     match registry.place(&interface) {
-        Some(place) => Ok(format!(in alloc; "{place}")?),
-        None => Ok(String::from_str(alloc, "none")?),
+        Some(place) => push_shown(answers, &place),
+        None => push_parted(answers, "; ", "none"),
     }
 }
 
-fn added(alloc: Global, registry: &mut Registry, text: &str) -> Result<String, Fail> {
+/// Appends what comes of an interface that is added, and how many are there then.
+fn push_added(
+    alloc: Global,
+    answers: &mut String,
+    registry: &mut Registry,
+    text: &str,
+) -> Result<(), Fail> {
     let interface = IfaceName::read(alloc, text.as_bytes())?;
-    let added = registry.add(interface);
-    let there = registry.len();
-    match added {
-        Ok(place) => Ok(format!(in alloc; "{place}, {there} there")?),
-        Err(fault) => Ok(format!(in alloc; "{fault}, {there} there")?),
+    match registry.add(interface) {
+        Ok(place) => push_shown(answers, &place)?,
+        Err(fault) => push_shown(answers, &fault)?,
     }
+    Ok(write!(answers, ", {} there", registry.len())?)
+}
+
+fn push_shown<T: Display>(answers: &mut String, shown: &T) -> Result<(), Fail> {
+    push_parted(answers, "; ", "")?;
+    Ok(write!(answers, "{shown}")?)
 }
 
 #[test]
@@ -72,21 +100,31 @@ fn a_new_registry_is_empty(rt: HostRuntime) {
 #[test]
 fn the_largest_registry(rt: HostRuntime) -> Result<(), Fail> {
     let mut registry = Registry::make(rt.alloc(), 1_000);
-    for index in 0..1_000u32 {
-        add(rt.alloc(), &mut registry, index)?;
-    }
+    fill(rt.alloc(), &mut registry)?;
     assert!(rt; registry.len() == 1_000);
+    Ok(())
+}
+
+/// Adds a thousand interfaces.
+fn fill(alloc: Global, registry: &mut Registry) -> Result<(), Fail> {
+    for index in 0..1_000u32 {
+        add(alloc, registry, index)?;
+    }
     Ok(())
 }
 
 /// An interface more, which has this place.
 fn add(alloc: Global, registry: &mut Registry, index: u32) -> Result<(), Fail> {
-    let text = format!(in alloc; "controller/joint{index}/effort")?;
-    let name = IfaceName::read(alloc, text.as_bytes())?;
-    if registry.add(name)? == index {
+    if registry.add(effort(alloc, index)?)? == index {
         return Ok(());
     }
     Err(Fail::new("another place"))
+}
+
+/// The effort of a joint with this number.
+fn effort(alloc: Global, number: u32) -> Result<IfaceName, Fail> {
+    let text = format!(in alloc; "controller/joint{number}/effort")?;
+    Ok(IfaceName::read(alloc, text.as_bytes())?)
 }
 
 /// An interface that is there is refused before a registry that is full; a reference is another interface than the one

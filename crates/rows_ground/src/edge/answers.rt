@@ -1,14 +1,14 @@
 //! Sources and sinks over a reader or a writer of std that answers each call as it is told to: what is made of an end
 //! and of each fault, and how many calls there are.
 
-use super::{push_call, push_count};
-use outside_io::{Failed, Sink, Source, StdSink, StdSource, read_whole};
-use pages_cases::pages::{Teller, hold_lines, push_parted};
+use super::{push_answer, push_calls_over, push_whole};
+use outside_io::{Source, StdSource, read_whole};
+use pages_cases::pages::{Teller, hold_lines};
 use pages_cases::words::part;
 use std::alloc::Global;
+use std::io;
 use std::io::{ErrorKind, Read, Write};
 use std::test::Fail;
-use std::{io, str};
 
 #[test]
 fn each_answer_of_the_system_is_passed_on(rt: HostRuntime) -> Result<(), Fail> {
@@ -95,32 +95,22 @@ fn push_reads(
 ) -> Result<(), Fail> {
     let mut source = StdSource::make(reader);
     for read in reads.split(' ') {
-        match read {
-            "whole" => push_whole(alloc, told, &mut source)?,
-            _ => push_one(told, &mut source)?,
-        }
+        push_given(alloc, told, &mut source, read)?;
     }
     Ok(())
 }
 
-/// Appends what a read of eight bytes gives.
-fn push_one<S: Source>(told: &mut String, source: &mut S) -> Result<(), Fail> {
-    let mut buffer = [0u8; 8];
-    match source.read(&mut buffer) {
-        Ok(count) => push_count(told, count),
-        Err(Failed) => push_parted(told, ", ", "failed"),
+/// Appends what a whole read gives, or one of eight bytes.
+fn push_given<S: Source>(
+    alloc: Global,
+    told: &mut String,
+    source: &mut S,
+    read: &str,
+) -> Result<(), Fail> {
+    if read == "whole" {
+        return push_whole(told, read_whole(alloc, source, 20));
     }
-}
-
-/// Appends what a whole read gives.
-fn push_whole<S: Source>(alloc: Global, told: &mut String, source: &mut S) -> Result<(), Fail> {
-    match read_whole(alloc, source, 20) {
-        Ok(bytes) => push_parted(told, ", ", str::from_utf8(bytes.as_slice())?),
-        Err(fault) => {
-            let fault = format!(in alloc; "{fault}")?;
-            push_parted(told, ", ", fault.as_str())
-        }
-    }
+    push_answer(told, source.read(&mut [0u8; 8]))
 }
 
 fn push_calls_made(told: &mut String, calls: usize) -> Result<(), Fail> {
@@ -141,18 +131,10 @@ impl Teller for Writes {
             calls: 0,
         };
         let mut told = String::new(alloc);
-        push_pieces(&mut told, &mut writer, part(row, 0))?;
+        push_calls_over(&mut told, &mut writer, part(row, 0))?;
         push_calls_made(&mut told, writer.calls)?;
         Ok(told)
     }
-}
-
-fn push_pieces(told: &mut String, writer: &mut Answering<'_>, pieces: &str) -> Result<(), Fail> {
-    let mut sink = StdSink::make(writer);
-    for piece in pieces.split('/') {
-        push_call(told, &mut sink, piece)?;
-    }
-    Ok(())
 }
 
 /// An end is one where it is told first, and is read once, before any byte and behind some; no fault but an

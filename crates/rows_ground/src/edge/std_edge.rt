@@ -2,14 +2,14 @@
 
 ghost use Rattle.std.specs.Prelude.{◌≡◌, IfOk};
 
-use super::{push_calls, push_read};
+use super::{push_bytes, push_calls_over, push_read};
 use outside_io::{Sink, Source, StdSink, StdSource, read_whole};
 use pages_cases::pages::{Teller, hold_lines};
 use pages_cases::words::word;
 use std::alloc::Global;
+use std::io;
 use std::io::{ErrorKind, Read, Write};
 use std::test::Fail;
-use std::{io, str};
 
 #[test]
 fn readers_and_writers_of_std(rt: HostRuntime) -> Result<(), Fail> {
@@ -26,15 +26,17 @@ struct Reads;
 
 impl Teller for Reads {
     fn told(&self, alloc: Global, row: &str) -> Result<String, Fail> {
-        let mut source = StdSource::make(row.trim_end().as_bytes());
         let mut told = String::new(alloc);
-        let mut buffer = [0u8; 4];
-        push_read(&mut told, &mut source, &mut buffer)?;
-        let rest = read_whole(alloc, &mut source, 10)?;
-        told.push_str(": ")?;
-        told.push_str(str::from_utf8(rest.as_slice())?)?;
+        push_reads(alloc, &mut told, row.trim_end().as_bytes())?;
         Ok(told)
     }
+}
+
+fn push_reads(alloc: Global, told: &mut String, bytes: &[u8]) -> Result<(), Fail> {
+    let mut source = StdSource::make(bytes);
+    push_read(told, &mut source, &mut [0u8; 4])?;
+    let rest = read_whole(alloc, &mut source, 10)?;
+    push_bytes(told, ": ", rest.as_slice())
 }
 
 /// Tells what writes and flushes give over a list, and then all that was written to it.
@@ -43,14 +45,16 @@ struct Writes;
 
 impl Teller for Writes {
     fn told(&self, alloc: Global, row: &str) -> Result<String, Fail> {
-        let mut written = Vec::new(alloc);
         let mut told = String::new(alloc);
-        let mut sink = StdSink::make(&mut written);
-        push_calls(&mut told, &mut sink, row.trim_end())?;
-        told.push_str(": ")?;
-        told.push_str(str::from_utf8(written.as_slice())?)?;
+        push_writes(alloc, &mut told, row.trim_end())?;
         Ok(told)
     }
+}
+
+fn push_writes(alloc: Global, told: &mut String, pieces: &str) -> Result<(), Fail> {
+    let mut written = Vec::new(alloc);
+    push_calls_over(told, &mut written, pieces)?;
+    push_bytes(told, ": ", written.as_slice())
 }
 
 /// What is not flushed is not written.
@@ -67,8 +71,7 @@ impl Teller for FullWrites {
     fn told(&self, alloc: Global, row: &str) -> Result<String, Fail> {
         let mut room = [0u8; 3];
         let mut told = String::new(alloc);
-        let mut sink = StdSink::make(room.as_mut_slice());
-        push_calls(&mut told, &mut sink, row.trim_end())?;
+        push_calls_over(&mut told, room.as_mut_slice(), row.trim_end())?;
         Ok(told)
     }
 }
@@ -128,24 +131,15 @@ impl Teller for ThreeCalls {
     fn told(&self, alloc: Global, row: &str) -> Result<String, Fail> {
         let left: u32 = word(row, 0).parse()?;
         let fails = word(row, 1).starts_with("fails");
-        let mut told = String::new(alloc);
-        told.push_str(if is_read(left, fails) {
-            "read, "
-        } else {
-            "failed, "
-        })?;
-        told.push_str(if is_written(left, fails) {
-            "written, "
-        } else {
-            "failed, "
-        })?;
-        told.push_str(if is_flushed(left, fails) {
-            "flushed"
-        } else {
-            "failed"
-        })?;
-        Ok(told)
+        let read = done_or_failed(is_read(left, fails), "read");
+        let written = done_or_failed(is_written(left, fails), "written");
+        let flushed = done_or_failed(is_flushed(left, fails), "flushed");
+        Ok(format!(in alloc; "{read}, {written}, {flushed}")?)
     }
+}
+
+fn done_or_failed(is_done: bool, done: &str) -> &str {
+    if is_done { done } else { "failed" }
 }
 
 fn is_read(left: u32, fails: bool) -> bool {
