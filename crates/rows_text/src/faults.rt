@@ -86,10 +86,7 @@ fn text(alloc: Global, text: &str) -> Result<Text, Fail> {
 /// The faults of a description's text.
 fn push_texts(alloc: Global, printed: &mut String) -> Result<(), Fail> {
     push_text(printed, DescFault::NotToml)?;
-    push_text(
-        printed,
-        DescFault::BadKey(text(alloc, "controller[0].rate")?),
-    )?;
+    push_bad_key(alloc, printed, "controller[0].rate")?;
     let command = text(alloc, "component[12].joint[3].command[1]")?;
     push_text(printed, DescFault::BadValue(command))?;
     let vmax = text(alloc, "component[0].joint[0].vmax")?;
@@ -99,9 +96,13 @@ fn push_texts(alloc: Global, printed: &mut String) -> Result<(), Fail> {
 /// Keys that TOML writes in quotes.
 fn push_keys(alloc: Global, printed: &mut String) -> Result<(), Fail> {
     for key in KEYS {
-        push_text(printed, DescFault::BadKey(text(alloc, key)?))?;
+        push_bad_key(alloc, printed, key)?;
     }
     push_text(printed, DescFault::Memory)
+}
+
+fn push_bad_key(alloc: Global, printed: &mut String, key: &str) -> Result<(), Fail> {
+    push_text(printed, DescFault::BadKey(text(alloc, key)?))
 }
 
 const KEYS: [&str; 6] = [
@@ -135,30 +136,50 @@ const EACH: [What; 9] = [
 
 /// The other faults of the checks.
 fn push_checks(alloc: Global, printed: &mut String) -> Result<(), Fail> {
-    push_check(printed, CheckFault::NameTwice(text(alloc, "pid")?))?;
-    let reference = text(alloc, "pid/j1/position")?;
-    push_check(printed, CheckFault::NameTwice(reference))?;
+    push_name_twice(alloc, printed, "pid")?;
+    push_name_twice(alloc, printed, "pid/j1/position")?;
     push_check(printed, CheckFault::BadRange(text(alloc, "version")?))?;
-    push_check(printed, no_interface(alloc, b"fwd", b"j1/velocity")?)?;
-    push_check(printed, no_interface(alloc, b"traj", b"pid/j1/effort")?)?;
-    let fallback = CheckFault::NoFallback {
-        controller: Name::read(alloc, b"mk")?,
-        name: Name::read(alloc, b"fwd")?,
-    };
-    push_check(printed, fallback)?;
-    let member = CheckFault::NoMember {
-        group: Name::read(alloc, b"arms")?,
-        name: Name::read(alloc, b"mk")?,
-    };
-    push_check(printed, member)?;
-    push_check(printed, CheckFault::ChainLoop(Name::read(alloc, b"pid")?))?;
+    push_no_interface(alloc, printed, b"fwd", b"j1/velocity")?;
+    push_no_interface(alloc, printed, b"traj", b"pid/j1/effort")?;
+    push_no_controller(alloc, printed)?;
     push_check(printed, CheckFault::Memory)
 }
 
-fn no_interface(alloc: Global, controller: &[u8], interface: &[u8]) -> Result<CheckFault, Fail> {
-    Ok(CheckFault::NoInterface {
+fn push_name_twice(alloc: Global, printed: &mut String, name: &str) -> Result<(), Fail> {
+    push_check(printed, CheckFault::NameTwice(text(alloc, name)?))
+}
+
+fn push_no_interface(
+    alloc: Global,
+    printed: &mut String,
+    controller: &[u8],
+    interface: &[u8],
+) -> Result<(), Fail> {
+    let fault = CheckFault::NoInterface {
         controller: Name::read(alloc, controller)?,
         interface: IfaceName::read(alloc, interface)?,
+    };
+    push_check(printed, fault)
+}
+
+/// The faults of controllers that are not there, and of a loop.
+fn push_no_controller(alloc: Global, printed: &mut String) -> Result<(), Fail> {
+    push_check(printed, no_fallback(alloc, b"mk", b"fwd")?)?;
+    push_check(printed, no_member(alloc, b"arms", b"mk")?)?;
+    push_check(printed, CheckFault::ChainLoop(Name::read(alloc, b"pid")?))
+}
+
+fn no_fallback(alloc: Global, controller: &[u8], name: &[u8]) -> Result<CheckFault, Fail> {
+    Ok(CheckFault::NoFallback {
+        controller: Name::read(alloc, controller)?,
+        name: Name::read(alloc, name)?,
+    })
+}
+
+fn no_member(alloc: Global, group: &[u8], name: &[u8]) -> Result<CheckFault, Fail> {
+    Ok(CheckFault::NoMember {
+        group: Name::read(alloc, group)?,
+        name: Name::read(alloc, name)?,
     })
 }
 

@@ -5,7 +5,7 @@ use crate::scripts::CountsOfScript;
 use make_document::make_document;
 use pages_calls::described::described;
 use pages_cases::largest::Summed;
-use pages_cases::pages::{Teller, halves, hold, hold_lines};
+use pages_cases::pages::{Teller, halves, hold, hold_lines, joined};
 use std::alloc::Global;
 use std::str;
 use std::test::Fail;
@@ -29,10 +29,16 @@ struct Makes;
 
 impl Teller for Makes {
     fn told(&self, alloc: Global, text: &str) -> Result<String, Fail> {
-        let bytes = make_document(alloc, text.trim().parse()?)?;
-        let made = str::from_utf8(bytes.as_slice())?;
-        Ok(String::from_str(alloc, made.strip_suffix("\n").unwrap_or(made))?)
+        let rounds = text.trim().parse()?;
+        let bytes = make_document(alloc, rounds)?;
+        without_end(alloc, bytes.as_slice())
     }
+}
+
+/// A text without the end of its last line.
+fn without_end(alloc: Global, bytes: &[u8]) -> Result<String, Fail> {
+    let text = str::from_utf8(bytes)?;
+    Ok(String::from_str(alloc, text.strip_suffix("\n").unwrap_or(text))?)
 }
 
 /// Tells its lines before the component, and those behind the 999th round.
@@ -42,10 +48,14 @@ struct Ends;
 impl Teller for Ends {
     fn told(&self, alloc: Global, text: &str) -> Result<String, Fail> {
         let made = Makes.told(alloc, text)?;
-        let (first, _) = halves(made.as_str(), "[[component]]\n")?;
-        let (_, last) = halves(made.as_str(), "await 9990\n")?;
-        Ok(format!(in alloc; "{first}{last}")?)
+        ends_of(alloc, made.as_str())
     }
+}
+
+fn ends_of(alloc: Global, made: &str) -> Result<String, Fail> {
+    let (first, _) = halves(made, "[[component]]\n")?;
+    let (_, last) = halves(made, "await 9990\n")?;
+    joined(alloc, first, last)
 }
 
 /// Tells that its description is valid, and how many sessions and calls are read of its script.
@@ -55,11 +65,15 @@ struct Reads;
 impl Teller for Reads {
     fn told(&self, alloc: Global, text: &str) -> Result<String, Fail> {
         let made = Makes.told(alloc, text)?;
-        let (description, script) = halves(made.as_str(), "--- script ---\n")?;
-        hold_valid(alloc, description)?;
-        let counted = CountsOfScript.told(alloc, script)?;
-        Ok(format!(in alloc; "valid, {counted}")?)
+        read_in_words(alloc, made.as_str())
     }
+}
+
+fn read_in_words(alloc: Global, made: &str) -> Result<String, Fail> {
+    let (description, script) = halves(made, "--- script ---\n")?;
+    hold_valid(alloc, description)?;
+    let counted = CountsOfScript.told(alloc, script)?;
+    joined(alloc, "valid, ", counted.as_str())
 }
 
 /// Fails where a description is not read or not valid.

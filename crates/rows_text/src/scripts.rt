@@ -120,12 +120,17 @@ const BEGUN: &str = "session a\n";
 #[test]
 fn each_line_is_a_call_or_bad(rt: HostRuntime) -> Result<(), Fail> {
     let alloc = rt.alloc();
-    hold_lines(alloc, &OneCall, BEGUN, CALLS_ON_NAMES)?;
-    hold_lines(alloc, &OneCall, BEGUN, WHOLE_NUMBERS)?;
-    hold_lines(alloc, &OneCall, BEGUN, VALUES)?;
-    hold_lines(alloc, &OneCall, BEGUN, POINTS)?;
-    hold_lines(alloc, &OneCall, BEGUN, SWITCHES)?;
-    hold_lines(alloc, &OneCall, BEGUN, BYTES)
+    for page in [
+        CALLS_ON_NAMES,
+        WHOLE_NUMBERS,
+        VALUES,
+        POINTS,
+        SWITCHES,
+        BYTES,
+    ] {
+        hold_lines(alloc, &OneCall, BEGUN, page)?;
+    }
+    Ok(())
 }
 
 #[test]
@@ -163,7 +168,7 @@ impl Teller for CountsOfScript {
     fn told(&self, alloc: Global, text: &str) -> Result<String, Fail> {
         match read_every_form(alloc, text)? {
             Ok(script) => sizes(alloc, &script),
-            Err(fault) => Ok(format!(in alloc; "{fault}")?),
+            Err(fault) => in_words(alloc, fault),
         }
     }
 }

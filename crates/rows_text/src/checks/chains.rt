@@ -2,6 +2,7 @@
 
 use crate::pages::Teller;
 use chain_order::first_loop;
+use cm_document::Description;
 use desc_text::read_description;
 use std::alloc::Global;
 use std::test::Fail;
@@ -12,15 +13,26 @@ pub struct Loops;
 
 impl Teller for Loops {
     fn told(&self, alloc: Global, text: &str) -> Result<String, Fail> {
-        let description = read_description(alloc, text.as_bytes())?;
-        if description.controllers.as_slice().len() > 64 {
-            return Err(Fail::new("too many controllers"));
-        }
-        match first_loop(alloc, &description)? {
+        match loop_of(alloc, text)? {
             Some(place) => Ok(format!(in alloc; "{place}")?),
             None => Ok(String::from_str(alloc, "no loop")?),
         }
     }
+}
+
+/// The place of the first controller of a loop, if there is one.
+fn loop_of(alloc: Global, text: &str) -> Result<Option<u32>, Fail> {
+    let description = read_description(alloc, text.as_bytes())?;
+    let found = loop_in(alloc, &description);
+    drop(description);
+    found
+}
+
+fn loop_in(alloc: Global, description: &Description) -> Result<Option<u32>, Fail> {
+    if description.controllers.as_slice().len() > 64 {
+        return Err(Fail::new("too many controllers"));
+    }
+    Ok(first_loop(alloc, description)?)
 }
 
 /// No controllers; a chain of five on a joint; one that claims its own reference; two that claim each other's; a loop

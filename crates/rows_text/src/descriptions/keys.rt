@@ -90,29 +90,35 @@ fn every_key_is_read_by_its_rule(rt: HostRuntime) -> Result<(), Fail> {
 #[test]
 fn every_key_of_a_controller_is_read_by_the_rule_of_its_type(rt: HostRuntime) -> Result<(), Fail> {
     let alloc = rt.alloc();
-    for table in [
-        &A_FORWARD,
-        &A_PASSTHROUGH,
-        &A_PID,
-        &A_TRAJECTORY,
-        &A_BROADCASTER,
-        &A_MOCK,
-        &A_TRANSMISSION,
-        &A_DIFFERENTIAL,
-        &A_LIMITER,
-    ] {
-        hold_lines(alloc, table, "", OF_EVERY_TYPE)?;
+    for (lines, page) in CONTROLLERS.iter() {
+        hold_controller(alloc, lines, page)?;
     }
-    hold_lines(alloc, &A_FORWARD, "", CLAIMING)?;
-    hold_lines(alloc, &A_PASSTHROUGH, "", CLAIMING)?;
-    hold_lines(alloc, &A_PID, "", PID)?;
-    hold_lines(alloc, &A_TRAJECTORY, "", TRAJECTORY)?;
-    hold_lines(alloc, &A_BROADCASTER, "", BROADCASTER)?;
-    hold_lines(alloc, &A_MOCK, "", MOCK)?;
-    hold_lines(alloc, &A_TRANSMISSION, "", TRANSMISSION)?;
-    hold_lines(alloc, &A_DIFFERENTIAL, "", DIFFERENTIAL)?;
-    hold_lines(alloc, &A_LIMITER, "", LIMITER)
+    Ok(())
 }
+
+/// Fails where a key of a controller of these lines is not read by a rule of every type, or by one of its own type.
+fn hold_controller(alloc: Global, lines: &'static str, page: &str) -> Result<(), Fail> {
+    let controller = Table {
+        before: BEFORE_A_CONTROLLER,
+        lines,
+        path: "controller[0].",
+    };
+    hold_lines(alloc, &controller, "", OF_EVERY_TYPE)?;
+    hold_lines(alloc, &controller, "", page)
+}
+
+/// The least controller of each type, with what becomes of the keys that only some types have.
+const CONTROLLERS: [(&str, &str); 9] = [
+    (A_FORWARD, CLAIMING),
+    (A_PASSTHROUGH, CLAIMING),
+    (A_PID, PID),
+    (A_TRAJECTORY, TRAJECTORY),
+    (A_BROADCASTER, BROADCASTER),
+    (A_MOCK, MOCK),
+    (A_TRANSMISSION, TRANSMISSION),
+    (A_DIFFERENTIAL, DIFFERENTIAL),
+    (A_LIMITER, LIMITER),
+];
 
 /// The least top table, component and joint.
 const TOP: Table = Table {
@@ -154,69 +160,34 @@ kind = "system"
 };
 
 /// What stands before the lines of a controller.
-const CONTROLLER: &str = "version = 1\nupdate_rate = 100\ncycles = 5\n[[controller]]\n";
+const BEFORE_A_CONTROLLER: &str = "version = 1\nupdate_rate = 100\ncycles = 5\n[[controller]]\n";
 
-/// The least controller of each type.
-const A_FORWARD: Table = Table {
-    before: CONTROLLER,
-    lines: "name = \"c1\"\ntype = \"forward\"\nclaims = []",
-    path: "controller[0].",
-};
+/// The lines of the least controller of each type.
+const A_FORWARD: &str = "name = \"c1\"\ntype = \"forward\"\nclaims = []";
 
-const A_PASSTHROUGH: Table = Table {
-    before: CONTROLLER,
-    lines: "name = \"c1\"\ntype = \"passthrough\"\nclaims = []",
-    path: "controller[0].",
-};
+const A_PASSTHROUGH: &str = "name = \"c1\"\ntype = \"passthrough\"\nclaims = []";
 
-const A_PID: Table = Table {
-    before: CONTROLLER,
-    lines: "name = \"c1\"\ntype = \"pid\"\nclaims = []\nreads = []",
-    path: "controller[0].",
-};
+const A_PID: &str = "name = \"c1\"\ntype = \"pid\"\nclaims = []\nreads = []";
 
-const A_TRAJECTORY: Table = Table {
-    before: CONTROLLER,
-    lines: "name = \"c1\"\ntype = \"trajectory\"\nclaims = []\nreads = []",
-    path: "controller[0].",
-};
+const A_TRAJECTORY: &str = "name = \"c1\"\ntype = \"trajectory\"\nclaims = []\nreads = []";
 
-const A_BROADCASTER: Table = Table {
-    before: CONTROLLER,
-    lines: "name = \"c1\"\ntype = \"broadcaster\"\nreads = []",
-    path: "controller[0].",
-};
+const A_BROADCASTER: &str = "name = \"c1\"\ntype = \"broadcaster\"\nreads = []";
 
-const A_MOCK: Table = Table {
-    before: CONTROLLER,
-    lines: "name = \"c1\"\ntype = \"mock\"",
-    path: "controller[0].",
-};
+const A_MOCK: &str = "name = \"c1\"\ntype = \"mock\"";
 
-const A_TRANSMISSION: Table = Table {
-    before: CONTROLLER,
-    lines: "name = \"c1\"\ntype = \"transmission\"\nclaims = []\nreduction = 1",
-    path: "controller[0].",
-};
+const A_TRANSMISSION: &str = "name = \"c1\"\ntype = \"transmission\"\nclaims = []\nreduction = 1";
 
-const A_DIFFERENTIAL: Table = Table {
-    before: CONTROLLER,
-    lines: "name = \"c1\"\ntype = \"differential\"\nclaims = []\nreduction1 = 1\nreduction2 = 1",
-    path: "controller[0].",
-};
+const A_DIFFERENTIAL: &str =
+    "name = \"c1\"\ntype = \"differential\"\nclaims = []\nreduction1 = 1\nreduction2 = 1";
 
-const A_LIMITER: Table = Table {
-    before: CONTROLLER,
-    lines: r#"name = "c1"
+const A_LIMITER: &str = r#"name = "c1"
 type = "limiter"
 claims = []
 reads = []
 min = 0
 max = 1
 vmax = 1
-amax = 1"#,
-    path: "controller[0].",
-};
+amax = 1"#;
 
 /// What becomes of the keys of the top table, and of some that it has not.
 const OF_THE_TOP: &str = "\

@@ -4,6 +4,8 @@ use crate::checks::in_words;
 use crate::pages::Teller;
 use cm_document::{CompDesc, CompKind, CtlDesc, Description, JointDesc, Params};
 use desc_text::read_description;
+use fixed_num::Fx;
+use iface_names::Kind;
 use std::alloc::Global;
 use std::fmt::Display;
 use std::test::Fail;
@@ -70,16 +72,24 @@ fn kind_in_words(kind: CompKind) -> &'static str {
 
 /// A joint in one line, behind a line feed, its quantities in micro-units.
 fn push_joint(text: &mut String, joint: &JointDesc) -> Result<(), Fail> {
-    let (vmax, gain, damping) = (
-        joint.vmax.micro(),
-        joint.gain.micro(),
-        joint.damping.micro(),
-    );
-    let (x, v) = (joint.position.micro(), joint.velocity.micro());
-    write!(text, "\njoint {} {vmax} {gain}", joint.name)?;
-    write!(text, " {damping} {x} {v}")?;
+    write!(text, "\njoint {}", joint.name)?;
+    let (position, velocity) = (joint.position, joint.velocity);
+    let quantities = [joint.vmax, joint.gain, joint.damping, position, velocity];
+    push_quantities(text, &quantities)?;
     push_list(text, joint.commands.as_slice())?;
     push_list(text, joint.states.as_slice())
+}
+
+/// Some quantities in micro-units, each behind a space.
+fn push_quantities(text: &mut String, quantities: &[Fx]) -> Result<(), Fail> {
+    for quantity in quantities {
+        push_quantity(text, quantity.micro())?;
+    }
+    Ok(())
+}
+
+fn push_quantity(text: &mut String, micro: i64) -> Result<(), Fail> {
+    Ok(write!(text, " {micro}")?)
 }
 
 /// Some items in brackets, behind a space.
@@ -114,21 +124,17 @@ fn push_controller(text: &mut String, controller: &CtlDesc) -> Result<(), Fail> 
 /// A controller's parameters, its gains in micro-units.
 fn push_params(text: &mut String, params: &Params) -> Result<(), Fail> {
     match params {
-        Params::Forward { outs } => write!(text, " forward {outs}")?,
-        Params::Passthrough { outs } => write!(text, " passthrough {outs}")?,
-        Params::Trajectory { outs } => write!(text, " trajectory {outs}")?,
-        Params::Broadcaster { ins } => write!(text, " broadcaster {ins}")?,
+        Params::Forward { outs } => push_counted(text, "forward", *outs),
+        Params::Passthrough { outs } => push_counted(text, "passthrough", *outs),
+        Params::Trajectory { outs } => push_counted(text, "trajectory", *outs),
+        Params::Broadcaster { ins } => push_counted(text, "broadcaster", *ins),
         Params::Pid {
             kp,
             ki,
             kd,
             imax,
             omax,
-        } => {
-            let (kp, ki, kd) = (kp.micro(), ki.micro(), kd.micro());
-            write!(text, " pid {kp} {ki} {kd}")?;
-            write!(text, " {} {}", imax.micro(), omax.micro())?;
-        }
+        } => push_measured(text, "pid", &[*kp, *ki, *kd, *imax, *omax]),
         Params::Mock {
             outs,
             refuse_config,
@@ -136,12 +142,27 @@ fn push_params(text: &mut String, params: &Params) -> Result<(), Fail> {
             fail_update,
         } => {
             write!(text, " mock {outs} {refuse_config}")?;
-            push_list(text, not_ready.as_slice())?;
-            push_list(text, fail_update.as_slice())?;
+            push_cycles(text, not_ready.as_slice(), fail_update.as_slice())
         }
-        shaping => push_shaping(text, shaping)?,
+        shaping => push_shaping(text, shaping),
     }
-    Ok(())
+}
+
+/// A type, and how many claims or reads it has.
+fn push_counted(text: &mut String, name: &str, count: u32) -> Result<(), Fail> {
+    Ok(write!(text, " {name} {count}")?)
+}
+
+/// A type and its quantities.
+fn push_measured(text: &mut String, name: &str, quantities: &[Fx]) -> Result<(), Fail> {
+    write!(text, " {name}")?;
+    push_quantities(text, quantities)
+}
+
+/// The cycles before which a mock is not ready, and those in which its update fails.
+fn push_cycles<T: Display>(text: &mut String, not_ready: &[T], failing: &[T]) -> Result<(), Fail> {
+    push_list(text, not_ready)?;
+    push_list(text, failing)
 }
 
 /// The parameters of a controller that shapes commands, its quantities in micro-units.
@@ -151,10 +172,7 @@ fn push_shaping(text: &mut String, params: &Params) -> Result<(), Fail> {
             kind,
             reduction,
             offset,
-        } => {
-            let (reduction, offset) = (reduction.micro(), offset.micro());
-            write!(text, " transmission {kind} {reduction} {offset}")?;
-        }
+        } => push_transmission(text, "transmission", *kind, &[*reduction, *offset]),
         Params::Differential {
             kind,
             reduction1,
@@ -162,20 +180,26 @@ fn push_shaping(text: &mut String, params: &Params) -> Result<(), Fail> {
             offset1,
             offset2,
         } => {
-            let (first, second) = (reduction1.micro(), reduction2.micro());
-            write!(text, " differential {kind} {first} {second}")?;
-            write!(text, " {} {}", offset1.micro(), offset2.micro())?;
+            let quantities = [*reduction1, *reduction2, *offset1, *offset2];
+            push_transmission(text, "differential", *kind, &quantities)
         }
         Params::Limiter {
             min,
             max,
             vmax,
             amax,
-        } => {
-            write!(text, " limiter {} {}", min.micro(), max.micro())?;
-            write!(text, " {} {}", vmax.micro(), amax.micro())?;
-        }
-        _ => {}
+        } => push_measured(text, "limiter", &[*min, *max, *vmax, *amax]),
+        _ => Ok(()),
     }
-    Ok(())
+}
+
+/// A type, the kind of what it claims, and its quantities.
+fn push_transmission(
+    text: &mut String,
+    name: &str,
+    kind: Kind,
+    quantities: &[Fx],
+) -> Result<(), Fail> {
+    write!(text, " {name} {kind}")?;
+    push_quantities(text, quantities)
 }

@@ -1,7 +1,10 @@
 //! Values at the ends of their ranges, and just past them.
 
+use crate::checks::in_words;
 use crate::pages::Teller;
+use cm_document::Description;
 use desc_text::read_description;
+use fixed_num::Fx;
 use std::alloc::Global;
 use std::test::Fail;
 
@@ -13,17 +16,25 @@ impl Teller for Vmax {
     fn told(&self, alloc: Global, text: &str) -> Result<String, Fail> {
         match read_description(alloc, text.as_bytes()) {
             Ok(description) => {
-                let component = description
-                    .components
-                    .as_slice()
-                    .first()
-                    .ok_or("no component")?;
-                let joint = component.joints.as_slice().first().ok_or("no joint")?;
-                Ok(format!(in alloc; "{}", joint.vmax.micro())?)
+                let told = vmax_in_words(alloc, &description);
+                drop(description);
+                told
             }
-            Err(fault) => Ok(format!(in alloc; "{fault}")?),
+            Err(fault) => in_words(alloc, fault),
         }
     }
+}
+
+fn vmax_in_words(alloc: Global, description: &Description) -> Result<String, Fail> {
+    let vmax = vmax_of(description)?.micro();
+    Ok(format!(in alloc; "{vmax}")?)
+}
+
+/// The `vmax` of the first joint.
+fn vmax_of(description: &Description) -> Result<Fx, Fail> {
+    let component = description.components.as_slice().first();
+    let joints = component.ok_or("no component")?.joints.as_slice();
+    Ok(joints.first().ok_or("no joint")?.vmax)
 }
 
 /// Values of `vmax`, with the micro-units that they are.

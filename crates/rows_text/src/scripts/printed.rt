@@ -1,7 +1,7 @@
 //! Scripts as they print: the text of what was read.
 
 use super::read_every_form;
-use pages_cases::pages::Teller;
+use pages_cases::pages::{Teller, joined};
 use script_text::print_script;
 use std::alloc::Global;
 use std::str;
@@ -13,18 +13,25 @@ pub struct Prints;
 
 impl Teller for Prints {
     fn told(&self, alloc: Global, text: &str) -> Result<String, Fail> {
-        let script = read_every_form(alloc, text)??;
-        let printed = print_script(alloc, &script);
-        drop(script);
-        without_end(alloc, str::from_utf8(printed?.as_slice())?)
+        let printed = printed_of(alloc, text)?;
+        without_end(alloc, printed.as_slice())
     }
 }
 
+/// What a script of this text prints.
+fn printed_of(alloc: Global, text: &str) -> Result<Vec<u8>, Fail> {
+    let script = read_every_form(alloc, text)??;
+    let printed = print_script(alloc, &script);
+    drop(script);
+    Ok(printed?)
+}
+
 /// A text without the end of its last line.
-fn without_end(alloc: Global, printed: &str) -> Result<String, Fail> {
+fn without_end(alloc: Global, printed: &[u8]) -> Result<String, Fail> {
+    let printed = str::from_utf8(printed)?;
     match printed.strip_suffix("\n") {
-        Some(lines) => Ok(String::from_str(alloc, lines)?),
-        None => Ok(format!(in alloc; "{printed}, without an end")?),
+        Some(lines) => joined(alloc, lines, ""),
+        None => joined(alloc, printed, ", without an end"),
     }
 }
 
