@@ -102,12 +102,24 @@ fn hold_line<R: Threads, C: Controller + Send + 'static>(
 ) -> Result<(), Fail> {
     let (call, want) = halves(line, " => ")?;
     let mut told = String::new(alloc);
-    let entries = table.history().len();
-    if let Heard::Refused = make(rt, alloc, table, call, &mut told)? {
-        hold_unchanged(table, entries)?;
-        make_again(rt, alloc, table, call, &mut told)?;
-    }
+    make_in_two(rt, alloc, table, call, &mut told)?;
     hold_told(alloc, call, told.as_str(), want)
+}
+
+/// Makes a call, once more if it was refused memory.
+fn make_in_two<R: Threads, C: Controller + Send + 'static>(
+    rt: &R,
+    alloc: Global,
+    table: &mut Table<Marked<C>>,
+    call: &str,
+    told: &mut String,
+) -> Result<(), Fail> {
+    let entries = table.history().len();
+    if let Heard::Answered = make(rt, alloc, table, call, told)? {
+        return Ok(());
+    }
+    hold_unchanged(table, entries)?;
+    make_again(rt, alloc, table, call, told)
 }
 
 /// Fails if a call that was refused memory has changed the history, which had so many entries.
@@ -141,17 +153,18 @@ fn make<R: Threads, C: Controller + Send + 'static>(
     call: &str,
     told: &mut String,
 ) -> Result<Heard, Fail> {
-    match call {
+    let pushed = match call {
         "begin" => return begin(alloc, table, told),
-        "compute" => push_outcome_of(told, table.compute(), table)?,
-        "compute aside" => push_outcome_of(told, table.compute_aside(rt), table)?,
-        "land" => push_last(told, table.land(), table.history())?,
-        "end" => end(table, told)?,
-        "drop" => push_made(told, table.lose())?,
-        "close" => push_last(told, table.close(), table.history())?,
-        "history" => push_history(alloc, told, table.history())?,
+        "compute" => push_outcome_of(told, table.compute(), table),
+        "compute aside" => push_outcome_of(told, table.compute_aside(rt), table),
+        "land" => push_last(told, table.land(), table.history()),
+        "end" => end(table, told),
+        "drop" => push_made(told, table.lose()),
+        "close" => push_last(told, table.close(), table.history()),
+        "history" => push_history(alloc, told, table.history()),
         _ => return ask(alloc, table, call, told),
-    }
+    };
+    pushed?;
     Ok(Heard::Answered)
 }
 
@@ -242,8 +255,8 @@ fn ask<C: Controller>(
     }
     let (verb, rest) = call.split_once(" ").unwrap_or((call, ""));
     match verb {
-        "told" => ask_for(alloc, table, who, rest.parse()?, told),
-        "await" => wait_for(alloc, table, who, rest.parse()?, told),
+        "told" => ask_for(alloc, table, who, rest, told),
+        "await" => wait_for(alloc, table, who, rest, told),
         _ => call_desk(alloc, table, who, verb, rest, told),
     }
 }
@@ -253,11 +266,12 @@ fn ask_for<C: Controller>(
     alloc: Global,
     table: &mut Table<Marked<C>>,
     who: u32,
-    ticket: u32,
+    ticket: &str,
     told: &mut String,
 ) -> Result<Heard, Fail>
     requires session { who < table.old.opening.sessions }
 {
+    let ticket = ticket.parse()?;
     let Ok(outcome) = table.told(alloc, who, ticket) else {
         return Ok(Heard::Refused);
     };
@@ -270,11 +284,12 @@ fn wait_for<C: Controller>(
     alloc: Global,
     table: &mut Table<Marked<C>>,
     who: u32,
-    cycles: u64,
+    cycles: &str,
     told: &mut String,
 ) -> Result<Heard, Fail>
     requires session { who < table.old.opening.sessions }
 {
+    let cycles = cycles.parse()?;
     let Ok(reached) = table.reached(alloc, who, cycles) else {
         return Ok(Heard::Refused);
     };
