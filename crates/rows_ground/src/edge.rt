@@ -17,21 +17,14 @@ use std::test::Fail;
 /// The numbers between single spaces; of an empty text none.
 fn numbers(alloc: Global, text: &str) -> Result<Vec<u64>, Fail> {
     let mut numbers = Vec::new(alloc);
-    push_numbers(&mut numbers, text)?;
+    for word in text.split_whitespace() {
+        numbers.push(number_of(word)?)?;
+    }
     Ok(numbers)
 }
 
-fn push_numbers(numbers: &mut Vec<u64>, text: &str) -> Result<(), Fail> {
-    for word in text.split_whitespace() {
-        push_number(numbers, word)?;
-    }
-    Ok(())
-}
-
-fn push_number(numbers: &mut Vec<u64>, word: &str) -> Result<(), Fail> {
-    let number = word.parse()?;
-    numbers.push(number)?;
-    Ok(())
+fn number_of(word: &str) -> Result<u64, Fail> {
+    Ok(word.parse()?)
 }
 
 /// A source in memory, of `STEP | FAILING READS | BYTES`.
@@ -62,19 +55,14 @@ struct FiveReads;
 
 impl Teller for FiveReads {
     fn told(&self, alloc: Global, row: &str) -> Result<String, Fail> {
+        let mut source = source_of(alloc, row.trim_end())?;
+        let mut buffer = [b'.'; 4];
         let mut answers = String::new(alloc);
-        push_five(alloc, &mut answers, row.trim_end())?;
+        for _ in 0..5 {
+            push_read(&mut answers, &mut source, &mut buffer)?;
+        }
         Ok(answers)
     }
-}
-
-fn push_five(alloc: Global, answers: &mut String, row: &str) -> Result<(), Fail> {
-    let mut source = source_of(alloc, row)?;
-    let mut buffer = [b'.'; 4];
-    for _ in 0..5 {
-        push_read(answers, &mut source, &mut buffer)?;
-    }
-    Ok(())
 }
 
 fn push_read<S: Source>(
@@ -100,10 +88,6 @@ fn push_bytes(answers: &mut String, sign: &str, bytes: &[u8]) -> Result<(), Fail
 
 fn push_count(answers: &mut String, count: usize) -> Result<(), Fail> {
     push_parted(answers, ", ", "")?;
-    push_written(answers, count)
-}
-
-fn push_written(answers: &mut String, count: usize) -> Result<(), Fail> {
     Ok(write!(answers, "{count}")?)
 }
 

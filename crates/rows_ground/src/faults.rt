@@ -25,7 +25,6 @@ fn each_fault_prints_as_its_line(rt: HostRuntime) -> Result<(), Fail> {
     let mut printed = String::new(rt.alloc());
     push_of_numbers(&mut printed)?;
     push_of_names(&mut printed)?;
-    push_of_places(&mut printed)?;
     assert!(rt; printed.as_str() == PRINTED);
     Ok(())
 }
@@ -39,10 +38,7 @@ fn push_of_numbers(printed: &mut String) -> Result<(), AllocError> {
 
 fn push_of_names(printed: &mut String) -> Result<(), AllocError> {
     push(printed, NameFault::BadName)?;
-    push(printed, NameFault::Memory)
-}
-
-fn push_of_places(printed: &mut String) -> Result<(), AllocError> {
+    push(printed, NameFault::Memory)?;
     push(printed, RegFault::Taken(7))?;
     push(printed, RegFault::Full)?;
     push(printed, RegFault::Memory)?;

@@ -227,16 +227,8 @@ impl Teller for Prints {
 
 fn appended(alloc: Global, first: Fx, second: Fx) -> Result<String, Fail> {
     let mut bytes = Vec::from_slice(alloc, b"at ")?;
-    push_both(&mut bytes, first, second)?;
-    text(alloc, bytes.as_slice())
-}
-
-fn push_both(bytes: &mut Vec<u8>, first: Fx, second: Fx) -> Result<(), Fail> {
-    first.push_text(bytes)?;
+    first.push_text(&mut bytes)?;
     bytes.extend_from_slice(b" and ")?;
-    Ok(second.push_text(bytes)?)
-}
-
-fn text(alloc: Global, bytes: &[u8]) -> Result<String, Fail> {
-    Ok(String::from_str(alloc, str::from_utf8(bytes)?)?)
+    second.push_text(&mut bytes)?;
+    Ok(String::from_str(alloc, str::from_utf8(bytes.as_slice())?)?)
 }

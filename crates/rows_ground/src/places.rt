@@ -100,31 +100,21 @@ fn a_new_registry_is_empty(rt: HostRuntime) {
 #[test]
 fn the_largest_registry(rt: HostRuntime) -> Result<(), Fail> {
     let mut registry = Registry::make(rt.alloc(), 1_000);
-    fill(rt.alloc(), &mut registry)?;
-    assert!(rt; registry.len() == 1_000);
-    Ok(())
-}
-
-/// Adds a thousand interfaces.
-fn fill(alloc: Global, registry: &mut Registry) -> Result<(), Fail> {
     for index in 0..1_000u32 {
-        add(alloc, registry, index)?;
+        add(rt.alloc(), &mut registry, index)?;
     }
+    assert!(rt; registry.len() == 1_000);
     Ok(())
 }
 
 /// An interface more, which has this place.
 fn add(alloc: Global, registry: &mut Registry, index: u32) -> Result<(), Fail> {
-    if registry.add(effort(alloc, index)?)? == index {
+    let text = format!(in alloc; "controller/joint{index}/effort")?;
+    let name = IfaceName::read(alloc, text.as_bytes())?;
+    if registry.add(name)? == index {
         return Ok(());
     }
     Err(Fail::new("another place"))
-}
-
-/// The effort of a joint with this number.
-fn effort(alloc: Global, number: u32) -> Result<IfaceName, Fail> {
-    let text = format!(in alloc; "controller/joint{number}/effort")?;
-    Ok(IfaceName::read(alloc, text.as_bytes())?)
 }
 
 /// An interface that is there is refused before a registry that is full; a reference is another interface than the one

@@ -126,23 +126,14 @@ fn push_answer<S: Sink>(
         return Ok(next);
     }
     let piece = piece(alloc, call.parse()?, next)?;
-    push_taken(told, sink, piece.as_slice(), next)
-}
-
-/// Appends what a sink answers to a piece, and gives the byte that it is to take next.
-fn push_taken<S: Sink>(
-    told: &mut String,
-    sink: &mut S,
-    piece: &[u8],
-    next: u8,
-) -> Result<u8, Fail> {
-    let end = write_whole(sink, piece);
-    push_end(told, "all", end)?;
-    Ok(if end == Ok(()) {
-        behind(piece, next)
+    let end = write_whole(sink, piece.as_slice());
+    let after = if end == Ok(()) {
+        behind(piece.as_slice(), next)
     } else {
         next
-    })
+    };
+    push_end(told, "all", end)?;
+    Ok(after)
 }
 
 /// So many bytes from this one on.
