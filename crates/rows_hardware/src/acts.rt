@@ -176,7 +176,8 @@ fn push_values(told: &mut String, values: &[Value]) -> Result<(), Fail> {
     Ok(())
 }
 
-fn push_value(told: &mut String, value: &Value) -> Result<(), Fail> {
+/// Appends a value behind a space.
+pub fn push_value(told: &mut String, value: &Value) -> Result<(), Fail> {
     match value {
         Value::Unset => told.push_str(" unset")?,
         Value::Num(number) => write!(told, " {number}")?,
@@ -184,16 +185,18 @@ fn push_value(told: &mut String, value: &Value) -> Result<(), Fail> {
     Ok(())
 }
 
-fn numbers_of(alloc: Global, words: &str) -> Result<Vec<u32>, Fail> {
+/// Whole numbers with spaces between them, or `none`.
+pub fn numbers_of(alloc: Global, words: &str) -> Result<Vec<u32>, Fail> {
     let mut numbers = Vec::new(alloc);
     for word in words.split_whitespace() {
-        numbers.push(number_of(word)?)?;
+        if word != "none" {
+            numbers.push(number_of(word)?)?;
+        }
     }
     Ok(numbers)
 }
 
-/// The whole number that a word is.
-pub fn number_of(word: &str) -> Result<u32, Fail> {
+fn number_of(word: &str) -> Result<u32, Fail> {
     Ok(word.parse()?)
 }
 

@@ -2,8 +2,7 @@
 
 ghost use Rattle.std.specs.Prelude.{◌<◌, length};
 
-use crate::acts::value_of;
-use fixed_num::Value;
+use crate::acts::{push_value, value_of};
 use loan_board::{Board, Loan};
 use pages_calls::described::described;
 use pages_cases::largest::AT_ALL_LIMITS;
@@ -78,19 +77,26 @@ fn carry_out(board: &mut Board, act: &str) -> Result<(), Fail> {
         return Err(Fail::new("no such place"));
     }
     match verb {
-        "set" => board.set(place, value_of(rest)?),
-        "claim" => claim(board, place, rest.parse()?)?,
-        "release" => release(board, place)?,
-        "on" => make_available(board, place, true)?,
-        "off" => make_available(board, place, false)?,
-        _ => return Err(Fail::new("no such act")),
+        "set" => set(board, place, rest),
+        "claim" => claim(board, place, rest),
+        "release" => release(board, place),
+        "on" => make_available(board, place, true),
+        "off" => make_available(board, place, false),
+        _ => Err(Fail::new("no such act")),
     }
+}
+
+fn set(board: &mut Board, place: u32, word: &str) -> Result<(), Fail>
+    requires { place < length board.old }
+{
+    board.set(place, value_of(word)?);
     Ok(())
 }
 
-fn claim(board: &mut Board, place: u32, serial: u32) -> Result<(), Fail>
+fn claim(board: &mut Board, place: u32, serial: &str) -> Result<(), Fail>
     requires { place < length board.old }
 {
+    let serial = serial.parse()?;
     let is_command = board.loans()[place as usize].is_command;
     if !is_command || !board.available(place) || board.owner(place).is_some() {
         return Err(Fail::new("it cannot be claimed"));
@@ -135,10 +141,7 @@ fn push_loan(told: &mut String, loan: &Loan) -> Result<(), Fail> {
         ", ",
         if loan.is_command { "command" } else { "state" },
     )?;
-    match loan.value.get() {
-        Value::Unset => told.push_str(" unset")?,
-        Value::Num(number) => write!(told, " {number}")?,
-    }
+    push_value(told, &loan.value.get())?;
     match loan.owner {
         Some(serial) => write!(told, " {serial}")?,
         None => told.push_str(if loan.is_available { " free" } else { " off" })?,

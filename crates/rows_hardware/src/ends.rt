@@ -1,11 +1,12 @@
 //! Ends of cycles: who stops, and of those that stay who restarts and who is chained.
 
+ghost use Rattle.std.specs.Prelude.{◌<◌, length, All, IfOk};
 ghost use Rattle.stop_plan.specs.Ending.{HasFlags};
 ghost use Rattle.stop_plan.specs.Reports.{IsReport, count_in};
 
-use crate::acts::number_of;
+use crate::acts::numbers_of;
 use crate::orders::{are_below, listed, members_of};
-use chain_order::{PlaceSet, in_order};
+use chain_order::{Links, PlaceSet, in_order};
 use cm_document::Checked;
 use cm_model::Member;
 use cm_storage::FailedPart;
@@ -61,12 +62,7 @@ fn end_of(
     erred: &[u32],
 ) -> Result<String, Fail> {
     let relations = Relations::of(alloc, checked)?;
-    let count = relations.leaders().len() as usize;
-    if !are_below(active, count) {
-        return Err(Fail::new("no such place"));
-    }
-    let set = PlaceSet::of(alloc, count, active)?;
-    let order = in_order(alloc, relations.leaders(), &set, active)?;
+    let order = ordered(alloc, relations.leaders(), active)?;
     let report = Report {
         relations: &relations,
         order: &order,
@@ -76,14 +72,38 @@ fn end_of(
     decided(alloc, checked, &report)
 }
 
+/// These in the order of their updates.
+fn ordered(alloc: Global, leaders: &Links, active: &[Member]) -> Result<Vec<Member>, Fail>
+    ensures { IfOk result (λ list. All (λ m. m.place < length leaders.now) list.items) }
+{
+    let count = leaders.len() as usize;
+    if !are_below(active, count) {
+        return Err(Fail::new("no such place"));
+    }
+    let set = PlaceSet::of(alloc, count, active)?;
+    Ok(in_order(alloc, leaders, &set, active)?)
+}
+
 /// What is decided by a report. It is decided a second time, which makes no difference.
 fn decided(alloc: Global, checked: &Checked, report: &Report) -> Result<String, Fail>
     requires { IsReport report.now }
 {
     let mut ending = Ending::make(alloc, report.relations.leaders().len() as usize)?;
-    decide(alloc, report, &mut ending)?;
-    let mut told = decide(alloc, report, &mut ending)?;
-    push_sets(alloc, &mut told, checked, &ending)?;
+    decided_twice(alloc, checked, report, &mut ending)
+}
+
+fn decided_twice(
+    alloc: Global,
+    checked: &Checked,
+    report: &Report,
+    ending: &mut Ending,
+) -> Result<String, Fail>
+    requires report { IsReport report.now }
+    requires flags { HasFlags (count_in report.now) ending.old }
+{
+    decide(alloc, report, ending)?;
+    let mut told = decide(alloc, report, ending)?;
+    push_sets(alloc, &mut told, checked, ending)?;
     Ok(told)
 }
 
@@ -152,17 +172,6 @@ fn write_failures(alloc: Global, words: &str) -> Result<Vec<FailedPart>, Fail> {
         })?;
     }
     Ok(parts)
-}
-
-/// Numbers with spaces between them, or `none`.
-fn numbers_of(alloc: Global, words: &str) -> Result<Vec<u32>, Fail> {
-    let mut numbers = Vec::new(alloc);
-    for word in words.split_whitespace() {
-        if word != "none" {
-            numbers.push(number_of(word)?)?;
-        }
-    }
-    Ok(numbers)
 }
 
 /// A trajectory and a passthrough claim the reference of the pid; who reads or claims of the arm stops with it.

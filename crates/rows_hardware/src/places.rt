@@ -55,8 +55,8 @@ fn places_of(alloc: Global, checked: &Checked) -> Result<CtlPlaces, Fail>
 
 /// A line for each controller, and one for each interface.
 fn rows_of(alloc: Global, checked: &Checked) -> Result<String, Fail> {
-    let places = places_of(alloc, checked)?;
     let count = Board::make(alloc, checked)?.len();
+    let places = places_of(alloc, checked)?;
     told_rows(alloc, checked, &places, count)
 }
 
@@ -139,14 +139,15 @@ fn push_numbers(told: &mut String, numbers: &[u32]) -> Result<(), Fail> {
 
 /// How many places there are in the rows of controllers.
 fn counted(alloc: Global, checked: &Checked) -> Result<String, Fail> {
-    let places = places_of(alloc, checked)?;
     let count = u32::try_from(checked.description().controllers.as_slice().len())?;
+    let places = places_of(alloc, checked)?;
     let (mut read, mut exported, mut claimed) = (0usize, 0usize, 0usize);
     for place in 0..count {
         read = read.saturating_add(places.reads(place).len());
         exported = exported.saturating_add(places.references(place).len());
         claimed = claimed.saturating_add(places.claims(place).len());
     }
+    drop(places);
     Ok(format!(in alloc; "{read} read, {exported} exported, {claimed} claimed")?)
 }
 

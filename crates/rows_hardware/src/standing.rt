@@ -58,10 +58,14 @@ impl Player for Cycles {
         }
         let cycle = whole(act, 0)?.unsigned_abs();
         let bodies = bodies_at(alloc, act)?;
-        match self.standing.tell(cycle, bodies.as_slice()) {
-            Some(record) => shared(alloc, &record),
-            None => Ok(format!(in alloc; "of its own")?),
-        }
+        recorded(alloc, self.standing.tell(cycle, bodies.as_slice()))
+    }
+}
+
+fn recorded(alloc: Global, record: Option<CycleRecord>) -> Result<String, Fail> {
+    match record {
+        Some(record) => shared(alloc, &record),
+        None => Ok(format!(in alloc; "of its own")?),
     }
 }
 

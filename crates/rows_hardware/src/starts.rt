@@ -1,9 +1,9 @@
 //! Hardware at start, as its two lists tell it: components in every lifecycle state, of several joints and kinds.
 
+use crate::acts::push_value;
 use cm_document::{Checked, CompDesc, CtlDesc, Description, JointDesc};
 use cm_hardware::ResourceManager;
 use cm_model::{CompLine, IfaceLine};
-use fixed_num::Value;
 use iface_names::{IfaceName, Kind, Name};
 use pages_calls::described::described;
 use pages_cases::largest::AT_ALL_LIMITS;
@@ -148,20 +148,17 @@ fn push_interfaces(told: &mut String, names: &[String], lines: &[IfaceLine]) -> 
 fn push_interface(told: &mut String, names: &[String], line: &IfaceLine) -> Result<(), Fail> {
     let name = names.get(line.place as usize).ok_or("no such interface")?;
     let side = if line.command { "command" } else { "state" };
-    write!(told, "{side} {name} ")?;
+    write!(told, "{side} {name}")?;
     push_held(told, line)
 }
 
 /// What the interface holds and, of a command interface, who claims it; or that it is not available.
 fn push_held(told: &mut String, line: &IfaceLine) -> Result<(), Fail> {
     if !line.available {
-        told.push_str("unavailable")?;
+        told.push_str(" unavailable")?;
         return Ok(());
     }
-    match line.value.get() {
-        Value::Unset => told.push_str("unset")?,
-        Value::Num(number) => write!(told, "{number}")?,
-    }
+    push_value(told, &line.value.get())?;
     match line.owner {
         Some(serial) => write!(told, " {serial}")?,
         None if line.command => told.push_str(" free")?,

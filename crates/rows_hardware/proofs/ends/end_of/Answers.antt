@@ -12,10 +12,10 @@ pub decided-requires : goal.decided-requires
 decided-requires c =
     let cs = c.args.checked.now.controllers in
     let n = length cs in
-    let count : length c.leaders-2.result.now ≡ n =
-    ap length c.leaders-2.ensures ∙ ap (λ w. length w.leaders) c.in_ok-relations.ensures
+    let count : length c.leaders.result.now ≡ n =
+    ap length c.leaders.ensures ∙ ap (λ w. length w.leaders) c.in_ok-relations.ensures
     ∙ length-each_below (λ q. places_below (λ p. precedes_at cs p q) n) n in
     let ordered : All (λ (m : Member). m.place < n) c.in_ok-order.order.items =
-    λ k m below. let here = c.in_ok-order.ensures.within k m below in omega (arith, count, here) in
+    λ k m below. let here = c.in_ok-order.ensures k m below in omega (arith, count, here) in
     let within : All (λ (m : Member). m.place < n) c.deref.result.now = rw c.deref.ensures.value ordered in
     whole_report c.args.checked.now _ c.in_ok-relations.ensures within
