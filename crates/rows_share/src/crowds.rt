@@ -24,6 +24,8 @@ use pages_cases::pages::hold_told;
 use shared_desk::{Pass, SharedDesk};
 use std::alloc::Global;
 use std::sync::Wait;
+use std::sync::atomic::AtomicU64;
+use std::sync::atomic::Ordering::SeqCst;
 use std::test::Fail;
 use std::thread;
 use std::thread::Threads;
@@ -33,6 +35,13 @@ const SESSIONS: u32 = 8;
 
 /// How often each of them calls at most: it loads and unloads by turns.
 const MOST_CALLS: u32 = 100;
+
+/// So many calls of a session wait until the others have come as far. So all sessions are there before any calls, and
+/// none calls twice before each has called.
+const MEETINGS: u32 = 2;
+
+/// So many times a session that waits looks, and yields, at most.
+const MOST_LOOKS: u32 = 1_000_000;
 
 /// So many blanks of the kind there are, and as many loads can be done.
 const BLANKS: u32 = 20;
@@ -104,24 +113,55 @@ fn call_all<R: Threads + Wait + Sync, C: Controller + Send>(
     requires { All (IsSessionPass desk.now.lock desk.now.at_first.value) passes.items }
     ensures { IfOk result (λ back. All (IsSessionPass desk.now.lock desk.now.at_first.value) back.items) }
 {
-    Ok(thread::map_vec(rt, passes, &|pass| call_often(rt, alloc, desk, pass, calls))?)
+    let arrivals = Arrivals {
+        count: AtomicU64::new(0),
+    };
+    Ok(thread::map_vec(
+        rt,
+        passes,
+        &|pass| { call_often(rt, alloc, desk, pass, calls, &arrivals) },
+    )?)
 }
 
-/// All calls of a session.
+/// All calls of a session, or those up to a meeting to which the others do not come.
 fn call_often<R: Wait, C: Controller>(
     rt: &R,
     alloc: Global,
     desk: &SharedDesk<C>,
     mut pass: Pass<C>,
     calls: u32,
+    arrivals: &Arrivals,
 ) -> Pass<C>
     requires { IsSessionPass desk.now.lock desk.now.at_first.value pass }
     ensures { IsSessionPass desk.now.lock desk.now.at_first.value result }
 {
     for turn in 0..calls {
+        if turn < MEETINGS && !arrivals.meet(SESSIONS.saturating_mul(turn + 1)) {
+            break;
+        }
         call_once(rt, alloc, desk, &mut pass, turn % 2 == 0);
     }
     pass
+}
+
+/// How many have come to meetings so far, of all sessions together.
+#[derive(Drop)]
+struct Arrivals {
+    count: AtomicU64,
+}
+
+impl Arrivals {
+    /// One more has come, and waits until so many have. Whether they have.
+    fn meet(&self, wanted: u32) -> bool {
+        self.count.fetch_add(1, SeqCst);
+        for _ in 0..MOST_LOOKS {
+            if self.count.load(SeqCst) >= wanted as u64 {
+                return true;
+            }
+            thread::yield_now();
+        }
+        false
+    }
 }
 
 /// One call; the judge misses one that wants memory.
@@ -184,7 +224,8 @@ struct Tally {
     calls: Vec<u32>,
 }
 
-/// Fails at the first entry of which the rules tell something else, or that is not its session's next call.
+/// Fails at the first entry of which the rules tell something else, or that is not its session's next call, or that is
+/// a session's second call before the first of another.
 fn judge(alloc: Global, history: &[Entry], calls: u32) -> Result<(), Fail> {
     if history.len() != SESSIONS.saturating_mul(calls) as usize + OF_THE_LOOP {
         return Err(Fail::new("more or fewer entries"));
@@ -211,6 +252,9 @@ fn judge_entry(alloc: Global, tally: &mut Tally, entry: &Entry) -> Result<(), Fa
     };
     let loads = *calls % 2 == 0;
     *calls = calls.wrapping_add(1);
+    if *calls == 2 && tally.calls.as_slice().contains(&0) {
+        return Err(Fail::new("one session after the other"));
+    }
     let mut told = String::new(alloc);
     write!(told, "{}: ", entry.call)?;
     push_reply(&mut told, &entry.reply)?;
