@@ -6,8 +6,8 @@
 - The text of a fenced block stands in one source or example, blanks and ends of lines apart; so does each column of a
   block of columns.
 - A row of a table that ends with a constant has its number in the cell before. README has the line of `rt version`.
-- No line of a source, a proof or a script is wider than 120 columns, and no public name of a library stands in two
-  crates.
+- No line of a source, a proof, a script or a page's sentences is wider than 120 columns, and no public name of a
+  library stands in two crates.
 - Each crate has a README, each example its place, and each crate its minutes in docs/SPEED.md.
 - No sentence, cell of a table or page is longer than its limit, and a number that is quoted with docs/SPEED.md stands
   there.
@@ -30,6 +30,8 @@ PUBLIC = re.compile(r"(?m)^pub (?:struct|enum|trait|const) (\w+)")
 PASSED_ON = re.compile(r"(?m)^pub use (\w+)::")
 APART = re.compile(r'^\s*#!?\[|".{60,}"')  # lines that may be wider: attributes, which rt fmt joins, and long texts
 SOURCES = re.compile(r".*\.(rt|antt|py)|(\.ci/|scripts/)?\w+")
+PAGES = re.compile(r"README\.md|docs/\w+\.md|examples/README\.md|crates/\w+/README\.md")
+UNWRAPPED = re.compile(r"(?ms)^```.*?^```|^(?:\||!\[|\[!\[).*?$")  # what a page shows as it stands, tables and pictures
 
 
 def kit_missing():
@@ -56,9 +58,16 @@ def minutes_missing():
 def too_wide(repository):
     for name in repository.texts:
         if SOURCES.fullmatch(name):
-            for number, line in enumerate((TOP / name).read_text().split("\n"), 1):
-                if len(line) > WIDEST and not APART.search(line):
-                    yield f"{name}:{number}: is wider than {WIDEST} columns"
+            yield from wide_lines(name, (TOP / name).read_text(), lambda line: not APART.search(line))
+        elif PAGES.fullmatch(name):
+            text = UNWRAPPED.sub(lambda it: "\n" * it[0].count("\n"), (TOP / name).read_text())
+            yield from wide_lines(name, text)
+
+
+def wide_lines(name, text, counts=lambda line: True):
+    for number, line in enumerate(text.split("\n"), 1):
+        if len(line) > WIDEST and counts(line):
+            yield f"{name}:{number}: is wider than {WIDEST} columns"
 
 
 def homes_shared(repository):
