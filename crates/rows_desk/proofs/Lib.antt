@@ -1,3 +1,5 @@
 mod TableLemmas
 mod LoopLemmas
 mod Crossing
+mod LoopPassLemmas
+mod SessionLemmas

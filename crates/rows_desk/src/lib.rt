@@ -1,5 +1,5 @@
-//! Tests of the desk, call by call: a page has for each case the calls of several sessions and of the loop, a line each
-//! with what must be told of it.
+//! Tests of the desk and of a shared desk, call by call: a page has for each case the calls of several sessions and of
+//! the loop, a line each with what must be told of it; and sessions call on threads of their own.
 #![tactic(auto)]
 
 #[cfg(test)]
@@ -16,5 +16,6 @@ mod looping;
 mod marked;
 #[cfg(test)]
 mod refused;
+pub mod shared;
 #[cfg(test)]
 mod tables;

@@ -208,7 +208,8 @@ pub fn push_last(told: &mut String, made: bool, history: &[Entry]) -> Result<(),
     }
 }
 
-fn push_made(told: &mut String, made: bool) -> Result<(), Fail> {
+/// Appends whether a call of the loop was made.
+pub fn push_made(told: &mut String, made: bool) -> Result<(), Fail> {
     told.push_str(if made { "ok" } else { CANNOT })?;
     Ok(())
 }
@@ -327,7 +328,8 @@ fn push_answer<C: Controller>(
     push_given(told, given)
 }
 
-fn push_outcome(told: &mut String, outcome: Option<Outcome>) -> Result<(), Fail> {
+/// Appends what became of a ticket.
+pub fn push_outcome(told: &mut String, outcome: Option<Outcome>) -> Result<(), Fail> {
     let pushed = match &outcome {
         Some(outcome) => write!(told, "{outcome}"),
         None => told.push_str("not yet"),
@@ -336,7 +338,8 @@ fn push_outcome(told: &mut String, outcome: Option<Outcome>) -> Result<(), Fail>
     Ok(pushed?)
 }
 
-fn push_reached(told: &mut String, reached: bool) -> Result<(), Fail> {
+/// Appends whether so many cycles have ended.
+pub fn push_reached(told: &mut String, reached: bool) -> Result<(), Fail> {
     told.push_str(if reached { "ok" } else { "not yet" })?;
     Ok(())
 }

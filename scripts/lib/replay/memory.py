@@ -36,8 +36,8 @@ TESTS = (
     ("rows_program", "memory::memory_is_wanted_only_where_it_was_refused"),
     ("rows_desk", "refused::a_call_that_was_refused_memory_is_made_again"),
     ("rows_desk", "desks::a_desk_answers_several_sessions"),
-    ("rows_share", "passes::sessions_are_answered_while_a_flight_is_out"),
-    ("rows_share", "passes::each_call_is_answered_at_each_lifecycle_state"),
+    ("rows_desk", "shared::passes::sessions_are_answered_while_a_flight_is_out"),
+    ("rows_desk", "shared::passes::each_call_is_answered_at_each_lifecycle_state"),
 )
 FAILED = 101  # the status of a test
 # What a test says that has no memory for itself.

@@ -1,2 +1,0 @@
-pub mod LoopLemmas
-pub mod SessionLemmas

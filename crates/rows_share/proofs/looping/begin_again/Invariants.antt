@@ -1,7 +1,0 @@
-use Rattle.rows_share.specs.Loops.{IsLoopOf}
-use Rattle.rows_share.proofs.looping.begin_again.Given as goal
-
--- the loop stands as is said
-abbrev pub invariant-loop : goal.invariant-loop
-invariant-loop g l =
-    IsLoopOf l.desk.lock l.desk.at_first.value l.looping.pass.pass l.looping.stand l.looping.flight

@@ -1,6 +1,0 @@
-use Rattle.std.proofs.Common.{rules}
-use Rattle.rows_share.proofs.LoopLemmas.{closes_loop}
-use Rattle.rows_share.proofs.looping.close.Goals as goal
-
-pub returns : goal.returns
-returns g c = closes_loop _ _ _ _ _ _ c.requires (search rules) c.close.ensures.closed
