@@ -7,8 +7,8 @@ job `check` judges the whole trace, and so does another implementation, if one i
 
 The documents are the examples that run and have no schedule, and others that are made here: four sessions list, send,
 wait and switch beside 300 cycles. Every other one of these comes from the maker of the other implementation, if one is
-named. Then each test of live runs is run once, pinned to one processor. The test programs are those that the gate
-built: one that is not there fails. With `--tests` another program is named for a crate.
+named. Then each test of the crates that have live runs is run once, pinned to one processor. The test programs are
+those that the gate built: one that is not there fails. With `--tests` another program is named for a crate.
 
 Last it says how many different traces the documents gave, and how many lines of sessions came while a cycle was aloft.
 The exit status is 1 if a trace is wrong, a run hangs or a test fails. On more processors than one it is 1 too if no
@@ -33,7 +33,7 @@ from .traces import LONGEST, SEPARATOR, aloft, before_close, calls_of, scheduled
 LIMIT = 60  # seconds; a run takes some hundredths of one
 CYCLES, SESSIONS, LINES, JOINTS = 300, 4, 20, 3
 MOST_TURNS = 10_000  # calls and turns of a script
-PINNED = ("rows_job", "rows_callers")  # the crates whose tests are run on one processor
+PINNED = ("rows_program", "rows_callers")  # the crates whose tests are run on one processor
 TEST_LIMIT = 300  # seconds; a test takes some seconds of a processor
 LISTED = ": test"  # what stands behind the name of each test that a program of tests lists
 

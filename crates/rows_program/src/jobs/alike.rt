@@ -1,6 +1,6 @@
 //! What a run prints does not depend on the number of its workers.
 
-use crate::waiting::ran;
+use crate::jobs::waiting::ran;
 use pages_calls::stocks::blanks;
 use pages_cases::pages::{expanded, halves, hold_told};
 use pages_runs::documents::SIX_JOINTS;

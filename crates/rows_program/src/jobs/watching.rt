@@ -4,7 +4,7 @@ ghost use Rattle.std.specs.Prelude.{IfOk};
 ghost use Rattle.std.specs.List.{All};
 ghost use Rattle.cm_model.specs.Controllers.{IsBlank};
 
-use crate::meeting::Meeting;
+use crate::jobs::meeting::Meeting;
 use cm_document::{CtlKind, Mail, Params};
 use cm_model::Tick;
 use cm_storage::Done;

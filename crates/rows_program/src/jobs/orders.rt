@@ -1,6 +1,6 @@
 //! Live runs of two documents in each order that the gate can force: what they print is what their turns print.
 
-use crate::running::{ARM, told_of};
+use crate::jobs::running::{ARM, told_of};
 use pages_cases::pages::{Teller, hold_told, joined};
 use pages_runs::runs::BY_TURNS;
 use std::alloc::Global;

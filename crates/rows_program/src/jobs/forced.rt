@@ -1,6 +1,6 @@
 //! Live runs whose threads are held in an order, so that what they print is known.
 
-use crate::running::hold;
+use crate::jobs::running::hold;
 use std::test::Fail;
 
 /// How often a case is run whose order leaves a run one way to go.

@@ -4,8 +4,8 @@ ghost use Rattle.std.specs.Prelude.{◌<◌, ◌^◌, length};
 ghost use Rattle.std.specs.List.{All};
 ghost use Rattle.cm_model.specs.Controllers.{IsBlank};
 
-use crate::ordered::{InOrder, OrderedPace};
-use crate::waiting::told;
+use crate::jobs::ordered::{InOrder, OrderedPace};
+use crate::jobs::waiting::told;
 use cm_stock::Stock;
 use cm_top::{Status, run};
 use ctl_trait::Controller;

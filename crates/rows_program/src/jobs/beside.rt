@@ -4,9 +4,9 @@ ghost use Rattle.std.specs.Prelude.{◌<◌, ◌^◌, length};
 ghost use Rattle.std.specs.List.{All};
 ghost use Rattle.cm_model.specs.Controllers.{IsBlank};
 
-use crate::meeting::Meeting;
-use crate::waiting::ran;
-use crate::watching::all_watching;
+use crate::jobs::meeting::Meeting;
+use crate::jobs::waiting::ran;
+use crate::jobs::watching::all_watching;
 use ctl_trait::Controller;
 use pages_calls::stocks::blanks;
 use sequence::Shared;

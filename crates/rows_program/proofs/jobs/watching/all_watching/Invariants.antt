@@ -1,7 +1,7 @@
 use Rattle.std.specs.Prelude.{length}
 use Rattle.std.specs.List.{All}
 use Rattle.cm_model.specs.Controllers.{IsBlank}
-use Rattle.rows_job.proofs.watching.all_watching.Given as goal
+use Rattle.rows_program.proofs.jobs.watching.all_watching.Given as goal
 
 -- those that are left are blank, and so are those that watch
 abbrev pub invariant-loop-blank : goal.invariant-loop-blank

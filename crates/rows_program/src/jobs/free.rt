@@ -1,7 +1,7 @@
 //! Live runs that are left to their threads, and a full queue: what each caller is told, whoever comes first.
 
-use crate::ordered::InOrder;
-use crate::running::{ARM, Ran, run_live};
+use crate::jobs::ordered::InOrder;
+use crate::jobs::running::{ARM, Ran, run_live};
 use pages_cases::pages::{halves, hold_told, joined, push_parted};
 use std::alloc::Global;
 use std::sync::Wait;
