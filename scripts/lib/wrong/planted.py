@@ -6,7 +6,14 @@ import sys
 
 from ..edits import Edit
 from ..kit import are_below, asked, crate
-from .functions import citing_constant_at, function_at
+from .functions import citing_constant_at, function_at, functions
+
+# A proof that leaves all open. Callers may rest on the function's contract all the same.
+OPEN = """use {module}.Statement.{{statement}}
+
+pub {name}_spec : {{M : Type 1}} → statement M
+{name}_spec = ?
+"""
 
 # What is said where a proof file names what the wrong body does not have: that shows nothing of a contract.
 OF_NAMES = re.compile(r"has no field|is not in scope|has no `|was not admitted|no goal|is not declared|unknown")
@@ -100,8 +107,23 @@ class PlantedCrate:
                 old_path, new_path = (".".join(["", "proofs", *above, it, ""]) for it in (function.name, name))
                 proof.write_text(proof.read_text().replace(old_path, new_path))
 
+    def leave_others_open(self):
+        """Leaves the proof of each other function open: the gate has made it, and to make it again takes longest.
+        Those of functions that call one another are made, because their proof is one.
+        """
+        asked = {name for names in self.asked.values() for name in names}
+        others = (it for file in self.texts for it in functions(file, self.texts) if not it.calls_itself)
+        for function in others:
+            if "::".join([self.name, *function.path]) not in asked:
+                place = self.folder.joinpath("proofs", *function.path)
+                shutil.rmtree(place, ignore_errors=True)
+                place.mkdir(parents=True)
+                module = ".".join(["Rattle", self.name, "proofs", *function.path])
+                (place / "Proof.antt").write_text(OPEN.format(module=module, name=function.name))
+
     def check(self, kept, jobs):
         """What the prover says of the planted bodies."""
+        self.leave_others_open()
         of = crate(self.name, self.copy)
         only = [word for names in self.asked.values() for name in names for word in ("--only", name)]
         words = of.words(["--jobs", str(jobs), "--allow-holes", *only], as_source=not are_below(of))
@@ -134,4 +156,4 @@ def verdict_of(name, said):
         return True, f"refused at {', '.join(re.findall(r'Answers.([^`]+)`', line[1])) or 'an answer'}"
     if errors:
         return False, "refused by a name alone"
-    return False, "LET THROUGH" if line[1].startswith("no holes") else line[1]
+    return False, "LET THROUGH" if line[1].startswith(("no holes", "depends on a hole")) else line[1]
