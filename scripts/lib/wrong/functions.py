@@ -16,7 +16,11 @@ class Function:
     def __init__(self, file, texts, found):
         text, indent = texts[file], found["indent"]
         self.name, self.named = found["name"], found.span("name")
-        self.end = text.index(f"\n{indent}}}\n", found.end()) + len(indent) + 2
+        last = re.compile(rf"(?m)^{indent}\{{?\}}$").search(text, found.end())
+        self.end = last.end()
+        first = re.compile(rf"(?m)^{indent}\{{$").search(text, found.end(), self.end)
+        first = first or re.compile(r"(?m)\{$").search(text, found.end(), self.end)
+        self.body = (first.end(), last.start()) if first else None  # None if it is empty
         lines = text[: found.start()].split("\n")
         while len(lines) > 1 and lines[-2].startswith((f"{indent}#[", f"{indent}///")):
             lines.pop(-2)

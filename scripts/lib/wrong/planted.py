@@ -26,17 +26,17 @@ class WrongBody(Edit):
         super().__init__(path)
         self.crate, self.title = path.parent.name, f"{path.parent.name}/{path.stem}"
 
-    def function(self, texts):
-        """The one function that it turns, or None."""
+    def functions(self, texts):
+        """The functions that it turns; none if it changes something else too."""
         found = {}
         for file, old, _ in self.changes:
             if texts[file].count(old) != 1:
                 sys.exit(f"{self.path}: its old text stands {texts[file].count(old)} times in {file}")
             function = function_at(file, texts[file].index(old), texts)
             if function is None:
-                return None
+                return []
             found[file, function.start] = function
-        return found.popitem()[1] if len(found) == 1 else None
+        return [*found.values()]
 
     def citing(self, texts):
         """The functions that cite the one constant that it changes."""
@@ -60,17 +60,18 @@ class PlantedCrate:
 
     def plant(self, edits, alone):
         for number, edit in enumerate(edits):
-            function = edit.function(self.texts)
+            function, *more = edit.functions(self.texts) or [None]
             file = edit.changes[0][0]
-            if function is None:
-                self.turn_constant(edit, file, alone)
+            if function is None or more:
+                self.turn_together(edit, [function, *more] if more else edit.citing(self.texts), alone)
             elif function.trait or function.calls_itself:
                 self.turn(edit, file, function)
             else:
                 self.add(edit, file, function, f"{function.name}_{number}")
         for file, text in self.texts.items():
-            for end, added in sorted(self.inserts.get(file, []), reverse=True):
-                text = text[:end] + added + text[end:]
+            added = [(end, end, new) for end, new in self.inserts.get(file, [])]
+            for start, end, new in sorted([*added, *self.left_open(file)], reverse=True):
+                text = text[:start] + new + text[end:]
             for edit in self.in_place.get(file, {}).values():
                 text = edit.turned(text)
             (self.folder / file).write_text(text)
@@ -83,13 +84,13 @@ class PlantedCrate:
         taken[function.start] = edit
         self.asked[edit] = ["::".join([self.name, *function.path])]
 
-    def turn_constant(self, edit, file, alone):
-        cite = edit.citing(self.texts)
-        if not cite:
+    def turn_together(self, edit, functions, alone):
+        """Turns several functions where they stand, or a constant that these cite."""
+        if not functions:
             self.others.append(edit)
         elif alone:
-            self.in_place[file] = {0: edit}
-            self.asked[edit] = ["::".join([self.name, *it.path]) for it in cite]
+            self.in_place = {file: {0: edit} for file, _, _ in edit.changes}
+            self.asked[edit] = ["::".join([self.name, *it.path]) for it in functions]
         else:
             self.alone.append(edit)
 
@@ -107,23 +108,24 @@ class PlantedCrate:
                 old_path, new_path = (".".join(["", "proofs", *above, it, ""]) for it in (function.name, name))
                 proof.write_text(proof.read_text().replace(old_path, new_path))
 
-    def leave_others_open(self):
-        """Leaves the proof of each other function open: the gate has made it, and to make it again takes longest.
-        Those of functions that call one another are made, because their proof is one.
+    def left_open(self, file):
+        """Leaves bodies and proofs of a file's other functions open: the gate has proved them, and to do so again takes
+        longest. Those that call one another stay, because their proof is one. Yields what is put where.
         """
         asked = {name for names in self.asked.values() for name in names}
-        others = (it for file in self.texts for it in functions(file, self.texts) if not it.calls_itself)
-        for function in others:
-            if "::".join([self.name, *function.path]) not in asked:
-                place = self.folder.joinpath("proofs", *function.path)
-                shutil.rmtree(place, ignore_errors=True)
-                place.mkdir(parents=True)
-                module = ".".join(["Rattle", self.name, "proofs", *function.path])
-                (place / "Proof.antt").write_text(OPEN.format(module=module, name=function.name))
+        for function in functions(file, self.texts):
+            if function.calls_itself or "::".join([self.name, *function.path]) in asked:
+                continue
+            place = self.folder.joinpath("proofs", *function.path)
+            shutil.rmtree(place, ignore_errors=True)
+            place.mkdir(parents=True)
+            module = ".".join(["Rattle", self.name, "proofs", *function.path])
+            (place / "Proof.antt").write_text(OPEN.format(module=module, name=function.name))
+            if function.body:
+                yield *function.body, "\nunreachable!()\n"
 
     def check(self, kept, jobs):
         """What the prover says of the planted bodies."""
-        self.leave_others_open()
         of = crate(self.name, self.copy)
         only = [word for names in self.asked.values() for name in names for word in ("--only", name)]
         words = of.words(["--jobs", str(jobs), "--allow-holes", *only], as_source=not are_below(of))
