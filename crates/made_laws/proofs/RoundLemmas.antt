@@ -81,103 +81,71 @@ round_of zero below cycles n held h asked z =
       sent = refl;
       stopped = refl;
       mailed = (refl, refl);
-      due =
-          (refl, (refl, (refl, (refl, (refl, (refl, (refl, (refl, tt))))))));
-      flown = comes_to _ _ _ _ _ _ (
-        (refl, refl),
-        ((refl, refl), ((refl, refl), ((refl, refl), ((refl, refl), ((refl, refl), ((refl, refl), tt)))))),
-      ) refl refl;
+      due = search;
       started = refl;
+      flown = comes_to _ _ _ _ _ _ (search) refl refl;
     }
 round_of (suc zero) below cycles n held h asked z =
     record {
       sent = refl;
       stopped = refl;
       mailed = (refl, refl);
-      due =
-          (refl, (refl, (refl, (refl, (refl, (refl, (refl, (refl, tt))))))));
-      flown = comes_to _ _ _ _ _ _ (
-        (refl, refl),
-        ((refl, refl), ((refl, refl), ((refl, refl), ((refl, refl), ((refl, refl), ((refl, refl), tt)))))),
-      ) refl refl;
+      due = search;
       started = refl;
+      flown = comes_to _ _ _ _ _ _ (search) refl refl;
     }
 round_of (suc (suc zero)) below cycles n held h asked z =
     record {
       sent = refl;
       stopped = refl;
       mailed = (refl, refl);
-      due =
-          (refl, (refl, (refl, (refl, (refl, (refl, (refl, (refl, tt))))))));
-      flown = comes_to _ _ _ _ _ _ (
-        (refl, refl),
-        ((refl, refl), ((refl, refl), ((refl, refl), ((refl, refl), ((refl, refl), ((refl, refl), tt)))))),
-      ) refl refl;
+      due = search;
       started = refl;
+      flown = comes_to _ _ _ _ _ _ (search) refl refl;
     }
 round_of (suc (suc (suc zero))) below cycles n held h asked z =
     record {
       sent = refl;
       stopped = refl;
       mailed = (refl, refl);
-      due =
-          (refl, (refl, (refl, (refl, (refl, (refl, (refl, (refl, tt))))))));
-      flown = comes_to _ _ _ _ _ _ (
-        (refl, refl),
-        ((refl, refl), ((refl, refl), ((refl, refl), ((refl, refl), ((refl, refl), ((refl, refl), tt)))))),
-      ) refl refl;
+      due = search;
       started = refl;
+      flown = comes_to _ _ _ _ _ _ (search) refl refl;
     }
 round_of (suc (suc (suc (suc zero)))) below cycles n held h asked z =
     record {
       sent = refl;
       stopped = refl;
       mailed = (refl, refl);
-      due =
-          (refl, (refl, (refl, (refl, (refl, (refl, (refl, (refl, tt))))))));
-      flown = comes_to _ _ _ _ _ _ (
-        (refl, refl),
-        ((refl, refl), ((refl, refl), ((refl, refl), ((refl, refl), ((refl, refl), ((refl, refl), tt)))))),
-      ) refl refl;
+      due = search;
       started = refl;
+      flown = comes_to _ _ _ _ _ _ (search) refl refl;
     }
 round_of (suc (suc (suc (suc (suc zero))))) below cycles n held h asked z =
     record {
       sent = refl;
       stopped = refl;
       mailed = (refl, refl);
-      due =
-          (refl, (refl, (refl, (refl, (refl, (refl, (refl, (refl, tt))))))));
-      flown = comes_to _ _ _ _ _ _ (
-        (refl, refl),
-        ((refl, refl), ((refl, refl), ((refl, refl), ((refl, refl), ((refl, refl), ((refl, refl), tt)))))),
-      ) refl refl;
+      due = search;
       started = refl;
+      flown = comes_to _ _ _ _ _ _ (search) refl refl;
     }
 round_of (suc (suc (suc (suc (suc (suc zero)))))) below cycles n held h asked z =
     record {
       sent = refl;
       stopped = refl;
       mailed = (refl, refl);
-      due =
-          (refl, (refl, (refl, (refl, (refl, (refl, (refl, (refl, tt))))))));
-      flown = comes_to _ _ _ _ _ _ (
-        (refl, refl),
-        ((refl, refl), ((refl, refl), ((refl, refl), ((refl, refl), ((refl, refl), ((refl, refl), tt)))))),
-      ) refl refl;
+      due = search;
       started = refl;
+      flown = comes_to _ _ _ _ _ _ (search) refl refl;
     }
 round_of (suc (suc (suc (suc (suc (suc (suc zero))))))) below cycles n held h asked z =
     record {
       sent = refl;
       stopped = refl;
       mailed = (refl, refl);
-      due =
-          (refl, (refl, (refl, (refl, (refl, (refl, (refl, (refl, tt))))))));
-      flown = comes_to _ _ _ _ _ _ (
-        (refl, refl),
-        ((refl, refl), ((refl, refl), ((refl, refl), ((refl, refl), ((refl, refl), ((refl, refl), tt)))))),
-      ) refl refl;
+      due = search;
       started = refl;
+      flown = comes_to _ _ _ _ _ _ (search) refl refl;
     }
 round_of (suc (suc (suc (suc (suc (suc (suc (suc r)))))))) below cycles n held h asked z = absurd (omega (arith, below))
