@@ -19,7 +19,7 @@ from ..edits import BODIES
 from ..kit import crate, guard, has_verdict, kit
 from .planted import PlantedCrate, WrongBody, verdict
 
-BYTES_A_CHECK = 8_000_000_000  # those of cm_bench and cm_top take as much
+BYTES_A_CHECK = 4_000_000_000  # that of cm_top takes as much
 
 
 def options(parser):
