@@ -1,11 +1,11 @@
 """Answers: does the prover refuse wrong bodies?
 
-Each file of scripts/wrong_bodies/CRATE turns one body of that crate. On a copy each stands beside the function that it
-turns, and all of a crate are asked for in one check, over what `rt lib` or `rt ci` left in the folders `out`. Of the
-functions that it calls the contracts alone count, so their proofs are left open. A body is refused if a goal of its
-contract does not hold. A method of a trait cannot stand twice, so it is turned where it stands, and a second turn of it
-takes a second check. Prints a line an edit, and last how many passed, because they are refused, and how many failed.
-The exit status is 1 if one failed.
+Each file of scripts/wrong_bodies/CRATE turns one body of that crate, few turn several. On a copy each stands beside the
+function that it turns, and all of a crate are asked for in one check, over what `rt lib` or `rt ci` left in the folders
+`out`. Of the functions that it calls the contracts alone count, so their bodies and proofs are left open. A body is
+refused if a goal of its contract does not hold. A method of a trait cannot stand twice, so it is turned where it
+stands, and a second turn of it takes a second check. Prints a line an edit, and last how many passed, because they are
+refused, and how many failed. The exit status is 1 if one failed.
 """
 
 import shutil
