@@ -1,6 +1,7 @@
 //! Sets of controllers, as flags by place.
 
-ghost use Rattle.std.specs.Prelude.{◌≡◌, ℕ, ◌<◌, ◌&&◌, ◌||◌, not, Bool, true, false, length, replicate, IfOk, All};
+ghost use Rattle.std.specs.Prelude.{◌≡◌, ℕ, ◌<◌, ◌&&◌, ◌||◌, ◌==◌, not, if◌then◌else◌, Bool, true, false, length};
+ghost use Rattle.std.specs.Prelude.{replicate, IfOk, All};
 ghost use Rattle.cm_model.specs.Order.{set_of, with_one, places_of};
 
 use cm_model::Member;
@@ -91,24 +92,20 @@ impl PlaceSet {
         self.flags[place as usize] = true;
     }
 
+    /// The controller at this place becomes a member, or is none any more.
+    pub fn put(&mut self, place: u32, is_member: bool)
+        requires { place < length self.old }
+        ensures length { length self.new ≡ length self.old }
+        ensures set { set_of self.new ≡ (λ p. if place == p then is_member else set_of self.old p) }
+    {
+        self.flags[place as usize] = is_member;
+    }
+
     /// No controller is a member any more.
     pub fn clear(&mut self)
         ensures { self.new ≡ replicate (length self.old) false }
     {
         self.flags.fill(false);
-    }
-
-    /// The set with one more.
-    pub fn with(&self, alloc: Global, place: u32) -> Result<PlaceSet, Memory>
-        requires { place < length self.now }
-        ensures length { IfOk result (λ set. length set ≡ length self.now) }
-        ensures set { IfOk result (λ set. set_of set ≡ with_one place (set_of self.now)) }
-    {
-        let mut set = PlaceSet {
-            flags: self.flags.clone()?,
-        };
-        set.insert(place);
-        Ok(set)
     }
 
     /// The members that are none of the other set.

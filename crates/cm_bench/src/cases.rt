@@ -20,7 +20,7 @@ const NEAR: u64 = 10_000_000;
 
 /// What one turn of a body is given.
 #[derive(Clone, Copy)]
-pub struct Case {
+pub(crate) struct Case {
     pub left: Fx,
     pub right: Fx,
     pub divisor: i64,
@@ -28,7 +28,7 @@ pub struct Case {
 }
 
 /// The cases of a seed.
-pub fn made(alloc: Global, seed: u64) -> Result<Vec<Case>, Memory> {
+pub(crate) fn made(alloc: Global, seed: u64) -> Result<Vec<Case>, Memory> {
     let mut source = SplitMix::make(seed);
     let mut cases = Vec::with_capacity(alloc, COUNT)?;
     for _ in 0..COUNT {
@@ -50,7 +50,7 @@ fn numbers(alloc: Global, seed: u64, count: usize, far: u64) -> Result<Vec<Fx>, 
 }
 
 /// The positions of a round's joints.
-pub fn positions(alloc: Global, seed: u64) -> Result<Vec<Fx>, Memory> {
+pub(crate) fn positions(alloc: Global, seed: u64) -> Result<Vec<Fx>, Memory> {
     numbers(alloc, seed, COUNT, NEAR)
 }
 
@@ -67,7 +67,7 @@ const UPDATES: usize = 100;
 
 /// One update of a limiter: where it stands, the step that led there, and what is wanted.
 #[derive(Clone, Copy)]
-pub struct Stand {
+pub(crate) struct Stand {
     pub at: Fx,
     pub last: i64,
     pub wanted: Fx,
@@ -91,7 +91,7 @@ impl Stand {
 }
 
 /// The updates of a round, one after the other, of a limiter that goes for positions of a seed.
-pub fn stands(alloc: Global, seed: u64, limiter: &Limiter) -> Result<Vec<Stand>, Memory>
+pub(crate) fn stands(alloc: Global, seed: u64, limiter: &Limiter) -> Result<Vec<Stand>, Memory>
     requires { limiter.now ≡ timed }
 {
     let wanted = numbers(alloc, seed, COUNT / UPDATES, WANTED)?;

@@ -5,7 +5,7 @@ ghost use Rattle.std.specs.Prelude.{◌≡◌, ◌<◌, [], All};
 ghost use Rattle.shared_desk.specs.Passes.{IsSessionPass};
 ghost use Rattle.turn_lock.specs.declared.TheConstants.{MOST_SEATS};
 
-use crate::callers::{Ask, CallTally, Caller, MutexCaller, PassCaller};
+use crate::callers::{Ask, Calls, call_by_mutex, call_by_pass};
 use crate::desks::booted;
 use crate::plan::TurnsAsked;
 use crate::timing::{Pair, Tenths};
@@ -21,34 +21,39 @@ use std::thread::Threads;
 use std::time::Instant;
 
 /// Prints the lines of callers of one desk.
-pub fn compare_callers<R>(rt: &R, plan: TurnsAsked) -> anyhow::Result<bool>
+pub(crate) fn compare_callers<R>(rt: &R, plan: TurnsAsked) -> anyhow::Result<bool>
 where
     R: Clock + Print + AllocGlobal + Threads + Wait + Sync,
 {
-    let looks = compare_crowd(rt, "desk", plan, Crowd::looking(plan))?;
-    let one = compare_crowd(rt, "one_caller", plan, Crowd::listing(plan, 1))?;
-    let two = compare_crowd(rt, "two_callers", plan, Crowd::listing(plan, 2))?;
-    let four = compare_crowd(rt, "four_callers", plan, Crowd::listing(plan, 4))?;
-    let eight = compare_crowd(rt, "eight_callers", plan, Crowd::listing(plan, 8))?;
-    Ok(looks && one && two && four && eight)
+    let mut same = true;
+    for number in 0..CROWDS {
+        let (name, crowd) = numbered(number, plan);
+        let pair = crowd.compare(rt, rt.alloc())?;
+        pair.tell(rt, name, plan.turns)?;
+        same = same && pair.same;
+    }
+    Ok(same)
 }
 
-/// Prints the line of a crowd, under this name.
-fn compare_crowd<R>(rt: &R, name: &str, plan: TurnsAsked, crowd: Crowd) -> anyhow::Result<bool>
-where
-    R: Clock + Print + AllocGlobal + Threads + Wait + Sync,
-{
-    let pair = crowd.compare(rt, rt.alloc())?;
-    pair.tell(rt, name, plan.turns)?;
-    Ok(pair.same)
+/// How many crowds there are.
+const CROWDS: u32 = 5;
+
+/// The crowd of a number, and its name.
+fn numbered(number: u32, plan: TurnsAsked) -> (&'static str, Crowd) {
+    match number {
+        0 => ("desk", Crowd::looking(plan)),
+        1 => ("one_caller", Crowd::listing(plan, 1)),
+        2 => ("two_callers", Crowd::listing(plan, 2)),
+        3 => ("four_callers", Crowd::listing(plan, 4)),
+        _ => ("eight_callers", Crowd::listing(plan, 8)),
+    }
 }
 
-/// So many callers of one desk, how many calls each of them makes, and what it asks in each.
+/// So many callers of one desk, and the calls of each.
 #[derive(Clone, Copy)]
 struct Crowd {
     callers: u32,
-    calls: u64,
-    ask: Ask,
+    calls: Calls,
     ghost few: { callers < MOST_SEATS },
 }
 
@@ -60,8 +65,10 @@ impl Crowd {
     fn looking(plan: TurnsAsked) -> Crowd {
         Crowd {
             callers: 1,
-            calls: plan.turns,
-            ask: Ask::Look,
+            calls: Calls {
+                count: plan.turns,
+                ask: Ask::Look,
+            },
         }
     }
 
@@ -72,8 +79,10 @@ impl Crowd {
     {
         Crowd {
             callers,
-            calls: plan.turns / LIST_SHARE / u64::from(callers) + 1,
-            ask: Ask::List,
+            calls: Calls {
+                count: plan.turns / LIST_SHARE / u64::from(callers) + 1,
+                ask: Ask::List,
+            },
         }
     }
 
@@ -91,28 +100,19 @@ impl Crowd {
         })
     }
 
-    /// The sum of what all calls answer, and the time of one.
+    /// The sum of what all calls answer, at a desk of their own, and the time of one.
     fn timed<R>(self, rt: &R, alloc: Global, way: Way) -> anyhow::Result<(i64, Tenths)>
     where
         R: Clock + Threads + Wait + Sync,
     {
         let start = Instant::now(rt)?;
-        let sum = self.sum(rt, alloc, way)?;
+        let sum = at_desk(rt, alloc, booted(alloc, self.callers)?, way, self.calls)?;
         Ok((sum, self.of_a_call(start.elapsed(rt)?.as_nanos())))
-    }
-
-    /// The sum of what all calls answer, at a desk of their own.
-    fn sum<R>(self, rt: &R, alloc: Global, way: Way) -> anyhow::Result<i64>
-    where
-        R: Threads + Wait + Sync,
-    {
-        let desk = booted(alloc, self.callers)?;
-        Ok(at_desk(rt, alloc, desk, way, self)?)
     }
 
     /// The time of one call, of all that took so long.
     fn of_a_call(self, nanos: u128) -> Tenths {
-        let calls = u128::from(self.calls).saturating_mul(u128::from(self.callers));
+        let calls = u128::from(self.calls.count).saturating_mul(u128::from(self.callers));
         Tenths::of(nanos, calls)
     }
 }
@@ -126,13 +126,13 @@ enum Way {
     Passes,
 }
 
-/// The calls of a crowd at this desk: the sum of what they answer.
+/// The calls of all sessions of this desk: the sum of what they answer.
 fn at_desk<R, C>(
     rt: &R,
     alloc: Global,
     desk: Desk<C>,
     way: Way,
-    crowd: Crowd,
+    calls: Calls,
 ) -> Result<i64, Memory>
 where
     R: Threads + Wait + Sync,
@@ -141,46 +141,44 @@ where
     requires few { desk.opening.sessions < MOST_SEATS }
 {
     match way {
-        Way::Mutex => at_mutex(rt, alloc, desk, crowd),
-        Way::Passes => at_passes(rt, alloc, desk, crowd),
+        Way::Mutex => at_mutex(rt, alloc, desk, calls),
+        Way::Passes => at_passes(rt, alloc, desk, calls),
     }
 }
 
-/// The calls of a crowd under the mutex: the sum of what they answer.
-fn at_mutex<R, C>(rt: &R, alloc: Global, desk: Desk<C>, crowd: Crowd) -> Result<i64, Memory>
+/// The calls of all sessions under the mutex: the sum of what they answer.
+fn at_mutex<R, C>(rt: &R, alloc: Global, desk: Desk<C>, calls: Calls) -> Result<i64, Memory>
 where
     R: Threads + Wait + Sync,
     C: Controller + Send,
 {
+    let sessions = desk.sessions();
     let desk = Mutex::new(Box::new(alloc, desk)?);
-    call_by_mutex(rt, alloc, &desk, crowd)
+    sum_of(by_mutex(rt, alloc, &desk, sessions, calls)?)
 }
 
-fn call_by_mutex<'a, R, C>(
-    rt: &'a R,
+/// What so many sessions are answered under the mutex, each on a thread of its own where one can be made.
+fn by_mutex<R, C>(
+    rt: &R,
     alloc: Global,
-    desk: &'a Mutex<Box<Desk<C>>>,
-    crowd: Crowd,
-) -> Result<i64, Memory>
+    desk: &Mutex<Box<Desk<C>>>,
+    sessions: u32,
+    calls: Calls,
+) -> Result<Vec<Result<i64, Memory>>, Memory>
 where
     R: Threads + Wait + Sync,
     C: Controller + Send,
 {
-    let mut tallies = Vec::new(alloc);
-    for who in 0..crowd.callers {
-        tallies.push(CallTally::of(MutexCaller {
-            rt,
-            alloc,
-            desk,
-            who,
-        }))?;
-    }
-    call_all(rt, tallies.as_mut_slice(), crowd);
-    sum_of(tallies.as_slice())
+    Ok(thread::map_indices(
+        rt,
+        alloc,
+        sessions as usize,
+        &|who| { call_by_mutex(rt, alloc, desk, who as u32, calls) },
+    )?)
 }
 
-/// The calls of a crowd by the passes of the desk: the sum of what they answer.
-fn at_passes<R, C>(rt: &R, alloc: Global, desk: Desk<C>, crowd: Crowd) -> Result<i64, Memory>
+/// The calls of all sessions by the passes of the desk: the sum of what they answer.
+fn at_passes<R, C>(rt: &R, alloc: Global, desk: Desk<C>, calls: Calls) -> Result<i64, Memory>
 where
     R: Threads + Wait + Sync,
     C: Controller + Send,
@@ -188,56 +186,29 @@ where
     requires few { desk.opening.sessions < MOST_SEATS }
 {
     let (shared, _looping, passes) = SharedDesk::share(alloc, desk)?;
-    call_by_passes(rt, alloc, &shared, passes, crowd)
+    sum_of(by_passes(rt, &shared, passes, calls)?)
 }
 
-fn call_by_passes<'a, R, C>(
-    rt: &'a R,
-    alloc: Global,
-    shared: &'a SharedDesk<C>,
+/// What the sessions of these passes are answered, each on a thread of its own where one can be made.
+fn by_passes<R, C>(
+    rt: &R,
+    desk: &SharedDesk<C>,
     passes: Vec<Pass<C>>,
-    crowd: Crowd,
-) -> Result<i64, Memory>
+    calls: Calls,
+) -> Result<Vec<Result<i64, Memory>>, Memory>
 where
     R: Threads + Wait + Sync,
     C: Controller + Send,
-    requires { All (IsSessionPass shared.now.lock shared.now.at_first.value) passes.items }
+    requires { All (IsSessionPass desk.now.lock desk.now.at_first.value) passes.items }
 {
-    let mut tallies = Vec::new(alloc);
-    for pass in passes {
-        tallies.push(CallTally::of(PassCaller::make(rt, shared, pass)))?;
-    }
-    call_all(rt, tallies.as_mut_slice(), crowd);
-    sum_of(tallies.as_slice())
-}
-
-/// All of them call, each on a thread of its own where one can be made.
-fn call_all<R: Threads + Sync, A: Caller + Send>(
-    rt: &R,
-    tallies: &mut [CallTally<A>],
-    crowd: Crowd,
-) {
-    let (calls, ask) = (crowd.calls, crowd.ask);
-    let threads = tallies.len();
-    if threads == 0 {
-        return;
-    }
-    thread::for_each_mut(
-        rt,
-        tallies,
-        threads,
-        &|_: usize, tally: &mut CallTally<A>| { tally.call(calls, ask) },
-    );
+    Ok(thread::map_vec(rt, passes, &|pass| { call_by_pass(rt, desk, pass, calls) })?)
 }
 
 /// The sum of what all were answered.
-fn sum_of<A>(tallies: &[CallTally<A>]) -> Result<i64, Memory> {
+fn sum_of(answers: Vec<Result<i64, Memory>>) -> Result<i64, Memory> {
     let mut sum: i64 = 0;
-    for tally in tallies {
-        if tally.is_refused {
-            return Err(Memory);
-        }
-        sum = sum.wrapping_add(tally.sum);
+    for answer in answers {
+        sum = sum.wrapping_add(answer?);
     }
     Ok(sum)
 }

@@ -2,6 +2,7 @@
 
 ghost use Rattle.std.specs.Prelude.{◌≡◌, [], IfOk};
 
+use crate::working::Working;
 use cm_desk::Desk;
 use cm_document::Checked;
 use cm_stock::Stock;
@@ -18,8 +19,9 @@ fn checked(alloc: Global) -> anyhow::Result<Checked> {
     Ok(check(alloc, description)?)
 }
 
-/// A desk of this description at boot, of so many sessions.
-pub fn booted(alloc: Global, sessions: u32) -> anyhow::Result<Desk<Mock>>
+/// A desk of this description at boot, of so many sessions. Its controllers are of the kind that works in other
+/// measurements, so that no second desk is built.
+pub(crate) fn booted(alloc: Global, sessions: u32) -> anyhow::Result<Desk<Working<Mock>>>
     ensures empty { IfOk result (λ desk. desk.made ≡ []) }
     ensures sessions { IfOk result (λ desk. desk.opening.sessions ≡ sessions) }
 {

@@ -1,13 +1,13 @@
 //! What an actuator is told through a gear, beside one whose arithmetic is all by 128 bits.
 
-ghost use Rattle.std.specs.Prelude.{◌≡◌, IfOk};
+ghost use Rattle.std.specs.Prelude.{◌≡◌};
 ghost use Rattle.fixed_num.specs.Arithmetic.{subtracted};
 ghost use Rattle.cm_model.specs.Transmissions.{to_actuator};
 
 use crate::bodies::Contender;
 use crate::plain::{in_range, plain_mul, plain_over};
 use ctl_shape::Simple;
-use fixed_num::{Fx, MICRO, Memory};
+use fixed_num::{Fx, MICRO};
 use iface_names::Kind;
 use std::marker::Model;
 
@@ -18,7 +18,7 @@ const OFFSET: i64 = 100_000;
 
 /// The transmission of `ctl_shape`.
 #[derive(Drop)]
-pub struct FastGear {
+pub(crate) struct FastGear {
     gear: Simple,
 }
 
@@ -44,16 +44,16 @@ impl FastGear {
 }
 
 impl Contender<Fx> for FastGear {
-    fn turn(&mut self, joint: &Fx) -> Result<i64, Memory>
-        ensures { IfOk result (λ n. n ≡ to_actuator self.old joint.now) }
+    fn turn(&mut self, joint: &Fx) -> i64
+        ensures { result ≡ to_actuator self.old joint.now }
     {
-        Ok(self.gear.to_actuator(*joint).micro())
+        self.gear.to_actuator(*joint).micro()
     }
 }
 
 /// The transmission that does without `ctl_shape`.
 #[derive(Drop)]
-pub struct PlainGear {
+pub(crate) struct PlainGear {
     kind: Kind,
     reduction: Fx,
     offset: Fx,
@@ -92,10 +92,10 @@ impl PlainGear {
 }
 
 impl Contender<Fx> for PlainGear {
-    fn turn(&mut self, joint: &Fx) -> Result<i64, Memory>
-        ensures { IfOk result (λ n. n ≡ to_actuator self.old joint.now) }
+    fn turn(&mut self, joint: &Fx) -> i64
+        ensures { result ≡ to_actuator self.old joint.now }
     {
-        Ok(self.told(*joint).micro())
+        self.told(*joint).micro()
     }
 }
 

@@ -1,14 +1,14 @@
 //! An update of a limiter, beside one that looks for the new step as the rule says: at the wanted step, at those one
 //! away from it, and so on.
 
-ghost use Rattle.std.specs.Prelude.{◌≡◌, ◌≤◌, nat_abs, IfOk};
+ghost use Rattle.std.specs.Prelude.{◌≡◌, ◌≤◌, nat_abs};
 ghost use Rattle.cm_model.specs.Limiters.{way_after, stops_in_time, is_feasible, new_step};
 ghost use Rattle.cm_bench.specs.Shapes.{timed, IsOneOn, CanGoOn, one_so_far};
 
 use crate::bodies::Contender;
 use crate::cases::{HIGHEST, LOWEST, Stand};
 use ctl_shape::{Limiter, Limits};
-use fixed_num::{Fx, LARGEST, Memory, Value};
+use fixed_num::{Fx, LARGEST, Value};
 use std::marker::Model;
 
 /// The longest step, in micro-units: a speed of a fifth of a unit a second comes to it in a millisecond.
@@ -29,7 +29,7 @@ const FARTHEST: u64 = 100_000;
 
 /// The limiter of `ctl_shape`.
 #[derive(Drop)]
-pub struct FastLimiter {
+pub(crate) struct FastLimiter {
     limiter: Limiter,
 }
 
@@ -52,7 +52,7 @@ impl FastLimiter {
 }
 
 /// The limiter that is timed.
-pub fn limiter() -> Limiter
+pub(crate) fn limiter() -> Limiter
     ensures { result ≡ timed }
 {
     Limiter::of(&Limits {
@@ -73,26 +73,24 @@ fn exact(n: i64) -> Fx
 }
 
 impl Contender<Stand> for FastLimiter {
-    fn turn(&mut self, case: &Stand) -> Result<i64, Memory>
-        ensures { IfOk result (λ n. IsOneOn case.now.at case.now.last case.now.wanted n) }
+    fn turn(&mut self, case: &Stand) -> i64
+        ensures { IsOneOn case.now.at case.now.last case.now.wanted result }
     {
-        Ok(
-            self.limiter
-                .advance(case.at, case.last, Value::Num(case.wanted))
-                .micro(),
-        )
+        self.limiter
+            .advance(case.at, case.last, Value::Num(case.wanted))
+            .micro()
     }
 }
 
 /// The limiter that looks for its step.
 #[derive(Clone, Copy)]
-pub struct PlainLimiter;
+pub(crate) struct PlainLimiter;
 
 impl Contender<Stand> for PlainLimiter {
-    fn turn(&mut self, case: &Stand) -> Result<i64, Memory>
-        ensures { IfOk result (λ n. IsOneOn case.now.at case.now.last case.now.wanted n) }
+    fn turn(&mut self, case: &Stand) -> i64
+        ensures { IsOneOn case.now.at case.now.last case.now.wanted result }
     {
-        Ok(looked_for(case))
+        looked_for(case)
     }
 }
 

@@ -10,14 +10,14 @@ use fixed_num::{Fx, LARGEST, MICRO};
 const TOP: i128 = LARGEST as i128;
 
 /// The product, always by 128 bits.
-pub fn plain_mul(left: Fx, right: Fx) -> Fx
+pub(crate) fn plain_mul(left: Fx, right: Fx) -> Fx
     ensures { result ≡ multiplied left right }
 {
     in_range(quotient(left.micro(), right.micro(), i64::from(MICRO)))
 }
 
 /// The number times `num` and divided by `den`, always by 128 bits.
-pub fn plain_over(number: Fx, num: i64, den: i64) -> Fx
+pub(crate) fn plain_over(number: Fx, num: i64, den: i64) -> Fx
     requires positive { pos 0 <ℤ den }
     ensures { result ≡ ratio number num den }
 {
@@ -42,7 +42,7 @@ fn floor(product: i128, den: i128) -> i128
 
 /// The nearest number of the range.
 #[tactic(auto, unfolding(fixed_num::specs::Micro::clamped))]
-pub fn in_range(n: i128) -> Fx
+pub(crate) fn in_range(n: i128) -> Fx
     ensures { result ≡ clamped n }
 {
     Fx::from_micro(n.max(-TOP).min(TOP) as i64)

@@ -1,4 +1,4 @@
-//! One run of a document, all of it in memory.
+//! Runs of a document, all of it in memory, and how long they took.
 
 use crate::watch::Stopwatch;
 use crate::working::{Working, blanks};
@@ -15,40 +15,65 @@ use std::thread::Threads;
 /// Bytes for the trace of a run, and more.
 const ROOM: usize = 1 << 20;
 
-/// The words of a job, each in a string.
-pub fn words_of(alloc: Global, job: &[&str]) -> Result<Vec<String>, Memory> {
-    let mut words = Vec::new(alloc);
-    for word in job {
-        words.push(String::from_str(alloc, word)?)?;
-    }
-    Ok(words)
-}
-
-/// What is run: a job, given by its words, over a document, whose mocks mix a number so many times in each update.
-#[derive(Drop)]
-pub struct Task<'a> {
-    pub words: &'a [String],
+/// A document whose mocks mix a number so many times in each update, and what is timed of its runs.
+#[derive(Clone, Copy)]
+pub(crate) struct Task<'a> {
     pub text: &'a str,
     pub turns: u64,
+    /// From one begin to the next, in microseconds; 0 if there is no pause between two cycles.
+    pub period_us: u64,
+    /// Whether a whole run is timed, or each of its cycles.
+    pub is_whole: bool,
 }
 
 impl Task<'_> {
-    /// Runs it once.
-    pub fn run<R>(&self, rt: &R, alloc: Global, watch: &mut Stopwatch<'_, R>) -> anyhow::Result<()>
+    /// Runs a job over it so many times: the lengths in nanoseconds, the least first.
+    pub fn lengths<R>(
+        self,
+        rt: &R,
+        alloc: Global,
+        job: &[&str],
+        runs: u64,
+    ) -> anyhow::Result<Vec<u64>>
     where
         R: Clock + Threads + Wait + Sync,
     {
-        match self.ends_well(rt, alloc, watch)? {
-            true => Ok(()),
+        let words = words_of(alloc, job)?;
+        let mut watch = Stopwatch::make(rt, alloc, self.period_us, self.is_whole);
+        match self.run_often(rt, alloc, words.as_slice(), runs, &mut watch)? {
+            true => Ok(watch.into_lengths()),
             false => Err(anyhow::anyhow!("a run that does not end well")),
         }
     }
 
-    /// Whether a run of it ends well. The stock has the most parts, so it is made behind all else that can fail.
-    fn ends_well<R>(
-        &self,
+    /// Whether so many runs all end well.
+    fn run_often<R>(
+        self,
         rt: &R,
         alloc: Global,
+        words: &[String],
+        runs: u64,
+        watch: &mut Stopwatch<'_, R>,
+    ) -> Result<bool, Memory>
+    where
+        R: Clock + Threads + Wait + Sync,
+    {
+        for _ in 0..runs {
+            watch.begin();
+            if !self.ends_well(rt, alloc, words, watch)? {
+                return Ok(false);
+            }
+            watch.end();
+        }
+        Ok(true)
+    }
+
+    /// Whether one run ends well. The stock has the most parts, so it is made behind all else that can fail.
+    fn ends_well<R>(
+        self,
+        rt: &R,
+        alloc: Global,
+        words: &[String],
         watch: &mut Stopwatch<'_, R>,
     ) -> Result<bool, Memory>
     where
@@ -57,8 +82,17 @@ impl Task<'_> {
         let mut source = source_of(alloc, self.text)?;
         let mut sink = MemSink::make(alloc, ROOM, ROOM, Vec::new(alloc))?;
         let stock = Stock::make(blanks(alloc, self.turns)?);
-        Ok(ends_well(rt, alloc, self.words, &mut source, &mut sink, stock, watch))
+        Ok(ends_well(rt, alloc, words, &mut source, &mut sink, stock, watch))
     }
+}
+
+/// The words of a job, each in a string.
+fn words_of(alloc: Global, job: &[&str]) -> Result<Vec<String>, Memory> {
+    let mut words = Vec::new(alloc);
+    for word in job {
+        words.push(String::from_str(alloc, word)?)?;
+    }
+    Ok(words)
 }
 
 /// A source that has this text.

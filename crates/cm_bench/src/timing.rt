@@ -3,14 +3,13 @@
 ghost use Rattle.std.specs.Prelude.{◌<◌};
 
 use crate::bodies::Contender;
-use fixed_num::Memory;
 use std::rt::Clock;
 use std::time::Instant;
 use std::{fmt, io};
 
 /// What the bodies go over, and how many turns each is given.
 #[derive(Drop)]
-pub struct Trial<'a, C> {
+pub(crate) struct Trial<'a, C> {
     pub cases: &'a [C],
     pub turns: u64,
     ghost some: { 0 < turns },
@@ -18,7 +17,7 @@ pub struct Trial<'a, C> {
 
 /// How a plain body and a fast one compare.
 #[derive(Clone, Copy)]
-pub struct Pair {
+pub(crate) struct Pair {
     /// Whether they gave the same answers.
     pub same: bool,
     /// The time of a turn of each.
@@ -28,7 +27,7 @@ pub struct Pair {
 
 /// A number of tenths, as a time in tenths of a nanosecond; it prints with one decimal.
 #[derive(Clone, Copy)]
-pub struct Tenths(u128);
+pub(crate) struct Tenths(u128);
 
 impl Tenths {
     /// The time of each of so many turns that took these nanoseconds together; 0 if there were none.
@@ -79,13 +78,13 @@ impl<C> Trial<'_, C> {
     }
 
     /// Compares both bodies at each case, and then times the turns of each.
-    pub fn compare<R, P, F>(&self, rt: &R, plain: &mut P, fast: &mut F) -> anyhow::Result<Pair>
+    pub fn compare<R, P, F>(&self, rt: &R, plain: &mut P, fast: &mut F) -> io::Result<Pair>
     where
         R: Clock,
         P: Contender<C>,
         F: Contender<C>,
     {
-        let agree = agree(self.cases, plain, fast)?;
+        let agree = agree(self.cases, plain, fast);
         let (by_plain, plain) = self.timed(rt, plain)?;
         let (by_fast, fast) = self.timed(rt, fast)?;
         Ok(Pair {
@@ -96,26 +95,22 @@ impl<C> Trial<'_, C> {
     }
 
     /// The sum of all turns of a body, and the time of one.
-    fn timed<R: Clock, B: Contender<C>>(
-        &self,
-        rt: &R,
-        body: &mut B,
-    ) -> anyhow::Result<(i64, Tenths)> {
+    fn timed<R: Clock, B: Contender<C>>(&self, rt: &R, body: &mut B) -> io::Result<(i64, Tenths)> {
         let start = Instant::now(rt)?;
-        let sum = self.sum(body)?;
+        let sum = self.sum(body);
         let nanos = start.elapsed(rt)?.as_nanos();
         Ok((sum, Tenths::of(nanos, u128::from(self.turns))))
     }
 
     /// The sum of all turns: round after round over the cases, and at last over as many as are left.
-    fn sum<B: Contender<C>>(&self, body: &mut B) -> Result<i64, Memory> {
+    fn sum<B: Contender<C>>(&self, body: &mut B) -> i64 {
         let count = self.cases.len() as u64;
         let Some(rounds) = self.turns.checked_div(count) else {
-            return Ok(0);
+            return 0;
         };
         let mut sum = 0;
         for _ in 0..rounds {
-            sum = round(self.cases, body, sum)?;
+            sum = round(self.cases, body, sum);
         }
         let left = (self.turns % count) as usize;
         round(&self.cases[..left], body, sum)
@@ -123,25 +118,20 @@ impl<C> Trial<'_, C> {
 }
 
 /// Whether both give the same answer at each case.
-fn agree<C, P: Contender<C>, F: Contender<C>>(
-    cases: &[C],
-    plain: &mut P,
-    fast: &mut F,
-) -> Result<bool, Memory> {
+fn agree<C, P: Contender<C>, F: Contender<C>>(cases: &[C], plain: &mut P, fast: &mut F) -> bool {
     for case in cases {
-        let answer = plain.turn(case)?;
-        if answer != fast.turn(case)? {
-            return Ok(false);
+        if plain.turn(case) != fast.turn(case) {
+            return false;
         }
     }
-    Ok(true)
+    true
 }
 
 /// One turn at each case, the answers added to the sum so far: so no round is the same call as another, and none is
 /// left out.
-fn round<C, B: Contender<C>>(cases: &[C], body: &mut B, mut sum: i64) -> Result<i64, Memory> {
+fn round<C, B: Contender<C>>(cases: &[C], body: &mut B, mut sum: i64) -> i64 {
     for case in cases {
-        sum = sum.wrapping_add(body.turn(case)?);
+        sum = sum.wrapping_add(body.turn(case));
     }
-    Ok(sum)
+    sum
 }

@@ -1,4 +1,4 @@
-//! How long each cycle of a live run took.
+//! How long each cycle of a live run took, or each run.
 
 use outside_io::Pace;
 use std::alloc::Global;
@@ -6,23 +6,25 @@ use std::rt::Clock;
 use std::thread;
 use std::time::Duration;
 
-/// A pace that notes how long each cycle took, and lets one begin at each beat.
+/// A pace that notes how long each cycle took, and lets one begin at each beat; or it notes how long each run took.
 #[derive(Drop)]
-pub struct Stopwatch<'a, R> {
+pub(crate) struct Stopwatch<'a, R> {
     rt: &'a R,
     period: Duration,
+    is_whole: bool,
     /// When the next cycle is to begin.
     beat: Duration,
-    /// When the cycle that goes on was let go; nobody knows of the first.
+    /// When that was let go which is timed; nobody knows of the first cycle of a run.
     since: Option<Duration>,
-    pub nanos: Vec<u64>,
+    nanos: Vec<u64>,
 }
 
 impl<'a, R: Clock> Stopwatch<'a, R> {
-    pub fn make(rt: &'a R, alloc: Global, period: Duration) -> Stopwatch<'a, R> {
+    pub fn make(rt: &'a R, alloc: Global, period_us: u64, is_whole: bool) -> Stopwatch<'a, R> {
         Stopwatch {
             rt,
-            period,
+            period: Duration::from_micros(period_us),
+            is_whole,
             beat: Duration::ZERO,
             since: None,
             nanos: Vec::new(alloc),
@@ -30,11 +32,28 @@ impl<'a, R: Clock> Stopwatch<'a, R> {
     }
 
     /// Another run begins.
-    pub fn forget(&mut self) {
-        self.since = None;
+    pub fn begin(&mut self) {
+        self.since = match self.is_whole {
+            true => self.rt.monotonic().ok(),
+            false => None,
+        };
     }
 
-    /// Notes how long the cycle took that has ended now.
+    /// A run has ended.
+    pub fn end(&mut self) {
+        if self.is_whole {
+            self.pause(0);
+        }
+    }
+
+    /// What it noted, the least first.
+    pub fn into_lengths(self) -> Vec<u64> {
+        let Stopwatch { mut nanos, .. } = self;
+        nanos.sort_unstable();
+        nanos
+    }
+
+    /// Notes how long that took which has ended now.
     fn note(&mut self, now: Duration) {
         if let Some(since) = self.since {
             let nanos = now.saturating_sub(since).as_nanos();
@@ -64,5 +83,13 @@ impl<R: Clock> Pace for Stopwatch<'_, R> {
             }
             Err(_) => self.since = None,
         }
+    }
+}
+
+/// The length at an index; 0 if there is none.
+pub(crate) fn length_at(lengths: &[u64], index: usize) -> u64 {
+    match lengths.get(index) {
+        Some(length) => *length,
+        None => 0,
     }
 }

@@ -8,7 +8,7 @@ use crate::plan::TurnsAsked;
 
 /// What the words ask for.
 #[derive(Clone, Copy)]
-pub enum Measure {
+pub(crate) enum Measure {
     /// So many live runs.
     Live(u64),
     /// So many runs by each number of workers.
@@ -20,7 +20,7 @@ pub enum Measure {
 }
 
 /// What these words ask for.
-pub fn asked(words: &[String]) -> Measure {
+pub(crate) fn asked(words: &[String]) -> Measure {
     if let Some(runs) = runs_of(words, "live") {
         return Measure::Live(runs);
     }

@@ -1,32 +1,29 @@
 //! How long a cycle takes in which controllers of one depth compute for a while, by one worker and by several.
 
-use crate::runs::{Task, words_of};
-use crate::watch::Stopwatch;
+use crate::runs::Task;
+use crate::watch::length_at;
 use crate::working::{MOST_WORKING, mixed};
-use fixed_num::Memory;
-use std::alloc::Global;
 use std::rt::Clock;
 use std::sync::Wait;
 use std::thread::Threads;
-use std::time::Duration;
 
 /// So many controllers work in each cycle. None has to do with another, so all are of one depth.
 const CONTROLLERS: u32 = MOST_WORKING;
 
 /// The cycles of a run.
-const CYCLES: u32 = 200;
+const CYCLES: u64 = 200;
 
 /// Prints how long a cycle takes at the least of so many runs, by 1, 2, 4 and 8 workers, whose controllers do next to
 /// nothing, and compute for 20, for 100 and for 500 microseconds.
-pub fn tell_workers<R>(rt: &R, runs: u64) -> anyhow::Result<()>
+pub(crate) fn tell_workers<R>(rt: &R, runs: u64) -> anyhow::Result<()>
 where
     R: Clock + Print + AllocGlobal + Threads + Wait + Sync,
 {
     let turns = turns_of_a_microsecond(rt)?;
-    tell_work(rt, 0, turns, runs)?;
-    tell_work(rt, 20, turns, runs)?;
-    tell_work(rt, 100, turns, runs)?;
-    tell_work(rt, 500, turns, runs)
+    for number in 0..16 {
+        tell_least(rt, micros(number / 4), workers(number % 4), turns, runs)?;
+    }
+    Ok(())
 }
 
 /// How often a number is mixed in a microsecond.
@@ -42,93 +39,89 @@ fn turns_of_a_microsecond<R: Clock>(rt: &R) -> anyhow::Result<u64> {
 /// So often it is tried.
 const TRIED: u64 = 20_000_000;
 
-/// Prints the lines of controllers that compute for so many microseconds, in each of which a number is mixed so often.
-fn tell_work<R>(rt: &R, micros: u64, turns: u64, runs: u64) -> anyhow::Result<()>
-where
-    R: Clock + Print + AllocGlobal + Threads + Wait + Sync,
-{
-    let turns = turns.saturating_mul(micros);
-    tell_least(rt, micros, "1", turns, runs)?;
-    tell_least(rt, micros, "2", turns, runs)?;
-    tell_least(rt, micros, "4", turns, runs)?;
-    tell_least(rt, micros, "8", turns, runs)
+/// For how long the controllers of these lines compute, in microseconds.
+fn micros(number: u32) -> u64 {
+    match number {
+        0 => 0,
+        1 => 20,
+        2 => 100,
+        _ => 500,
+    }
 }
 
+/// How many workers there are, as a word.
+fn workers(number: u32) -> &'static str {
+    match number {
+        0 => "1",
+        1 => "2",
+        2 => "4",
+        _ => "8",
+    }
+}
+
+/// Prints the line of controllers that compute for so many microseconds, in each of which a number is mixed so often,
+/// by so many workers.
 fn tell_least<R>(rt: &R, micros: u64, workers: &str, turns: u64, runs: u64) -> anyhow::Result<()>
 where
     R: Clock + Print + AllocGlobal + Threads + Wait + Sync,
 {
-    let nanos = least(rt, rt.alloc(), workers, turns, runs)?;
+    let task = Task {
+        text: DOCUMENT,
+        turns: turns.saturating_mul(micros),
+        period_us: 0,
+        is_whole: true,
+    };
+    let lengths = task.lengths(rt, rt.alloc(), &["run", "--workers", workers], runs)?;
+    let nanos = length_at(lengths.as_slice(), 0) / CYCLES;
     println!(rt; "{CONTROLLERS} of {micros} us by {workers}: {nanos} ns a cycle")?;
     Ok(())
 }
 
-/// The least time of a cycle by so many workers, in nanoseconds.
-fn least<R>(rt: &R, alloc: Global, workers: &str, turns: u64, runs: u64) -> anyhow::Result<u64>
-where
-    R: Clock + Threads + Wait + Sync,
-{
-    let words = words_of(alloc, &["run", "--workers", workers])?;
-    let text = document(alloc)?;
-    let task = Task {
-        words: words.as_slice(),
-        text: text.as_str(),
-        turns,
-    };
-    least_of(rt, alloc, &task, runs)
-}
-
-fn least_of<R>(rt: &R, alloc: Global, task: &Task<'_>, runs: u64) -> anyhow::Result<u64>
-where
-    R: Clock + Threads + Wait + Sync,
-{
-    let mut least = u64::MAX;
-    for _ in 0..runs {
-        least = least.min(timed(rt, alloc, task)?);
-    }
-    Ok(least)
-}
-
-/// The time of a cycle of one run, in nanoseconds.
-fn timed<R>(rt: &R, alloc: Global, task: &Task<'_>) -> anyhow::Result<u64>
-where
-    R: Clock + Threads + Wait + Sync,
-{
-    let since = rt.monotonic()?;
-    task.run(rt, alloc, &mut Stopwatch::make(rt, alloc, Duration::ZERO))?;
-    Ok(a_cycle(rt.monotonic()?.saturating_sub(since)))
-}
-
-/// The part of a cycle of the time of a run, in nanoseconds.
-fn a_cycle(took: Duration) -> u64 {
-    u64::try_from(took.as_nanos()).unwrap_or(u64::MAX) / u64::from(CYCLES)
-}
-
-// ---- The document
-
-/// Mocks, as many as work in a run, which one session switches on.
-fn document(alloc: Global) -> Result<String, Memory> {
-    let mut text = String::new(alloc);
-    push_document(&mut text)?;
-    Ok(text)
-}
-
-fn push_document(text: &mut String) -> Result<(), Memory> {
-    write!(text, "version = 1\nupdate_rate = 100\ncycles = {CYCLES}\n")?;
-    push_each(text, "[[controller]]\nname = \"m", "\"\ntype = \"mock\"\n")?;
-    text.push_str("--- script ---\nsession a\n")?;
-    push_each(text, "load m", "\n")?;
-    push_each(text, "configure m", "\n")?;
-    text.push_str("switch strict")?;
-    push_each(text, " +m", "")?;
-    text.push_str("\n")?;
-    Ok(())
-}
-
-/// The number of each controller, between these two.
-fn push_each(text: &mut String, before: &str, behind: &str) -> Result<(), Memory> {
-    for number in 0..CONTROLLERS {
-        write!(text, "{before}{number}{behind}")?;
-    }
-    Ok(())
-}
+/// Mocks, as many as work in a run of `CYCLES` cycles, which one session switches on.
+const DOCUMENT: &str = r#"version = 1
+update_rate = 100
+cycles = 200
+[[controller]]
+name = "m0"
+type = "mock"
+[[controller]]
+name = "m1"
+type = "mock"
+[[controller]]
+name = "m2"
+type = "mock"
+[[controller]]
+name = "m3"
+type = "mock"
+[[controller]]
+name = "m4"
+type = "mock"
+[[controller]]
+name = "m5"
+type = "mock"
+[[controller]]
+name = "m6"
+type = "mock"
+[[controller]]
+name = "m7"
+type = "mock"
+--- script ---
+session a
+load m0
+load m1
+load m2
+load m3
+load m4
+load m5
+load m6
+load m7
+configure m0
+configure m1
+configure m2
+configure m3
+configure m4
+configure m5
+configure m6
+configure m7
+switch strict +m0 +m1 +m2 +m3 +m4 +m5 +m6 +m7
+"#;

@@ -16,7 +16,7 @@ use std::marker::Model;
 
 /// A controller that mixes a number so many times in each update.
 #[derive(Drop)]
-pub struct Working<C: Controller> {
+pub(crate) struct Working<C: Controller> {
     ctl: C,
     turns: u64,
     mixed: u64,
@@ -84,7 +84,7 @@ impl<C: Controller> Controller for Working<C> {
 }
 
 /// A number, mixed so many times.
-pub fn mixed(seed: u64, turns: u64) -> u64 {
+pub(crate) fn mixed(seed: u64, turns: u64) -> u64 {
     let mut mixed = seed;
     for turn in 0..turns {
         mixed = mixed.wrapping_mul(FACTOR).wrapping_add(turn);
@@ -99,7 +99,7 @@ const FACTOR: u64 = 6_364_136_223_846_793_005;
 pub(crate) const MOST_WORKING: u32 = 8;
 
 /// Mocks that are blank and work in each update.
-pub fn blanks(alloc: Global, turns: u64) -> Result<Vec<Working<Mock>>, Memory>
+pub(crate) fn blanks(alloc: Global, turns: u64) -> Result<Vec<Working<Mock>>, Memory>
     ensures blank { IfOk result (λ blanks. All IsBlank blanks.items) }
     ensures few { IfOk result (λ blanks. length blanks.items ≤ MOST_WORKING) }
 {

@@ -1,5 +1,5 @@
 -- What is done for a request, with the parts of the desk.
-use Rattle.std.proofs.Common.{◌≡◌, ℕ, ◌<◌, Bool, List, [], ◌∷◌, length, map, Some, refl, sym, ap, subst, ◌∙◌}
+use Rattle.std.proofs.Common.{◌≡◌, ℕ, ◌<◌, Bool, List, [], ◌∷◌, length, map, Some, refl, sym, ap, ◌∙◌}
 use Rattle.std.specs.Prelude.{◌&&◌, slice_get}
 use Rattle.std.specs.List.{All, AllByRecursion}
 use Rattle.std.proofs.lemmas.List.Elements.{All-from_recursion, recursion_from_All}
@@ -9,17 +9,15 @@ use Rattle.cm_document.specs.declared.life.Life.{Life}
 use Rattle.cm_model.specs.Boundary.{concluded}
 use Rattle.cm_model.specs.Commit.{seen, described_of}
 use Rattle.cm_model.specs.Controllers.{is_ready}
-use Rattle.cm_model.specs.Order.{Places, set_of, nobody}
+use Rattle.cm_model.specs.Order.{set_of, nobody}
 use Rattle.cm_model.specs.Scene.{is_chained_in}
 use Rattle.cm_model.specs.Serials.{IsNumbered}
 use Rattle.cm_model.specs.State.{State, Loaded, life_of, is_active, active, is_chained}
 use Rattle.cm_model.specs.Steady.{IsSteady}
 use Rattle.cm_model.specs.declared.request.Request.{Request}
 use Rattle.cm_model.specs.declared.seen.Seen.{Seen}
-use Rattle.cm_hardware.specs.Wiring.{Wired}
 use Rattle.cm_hardware.proofs.LentLemmas.{held_is_moved}
 use Rattle.cm_hardware.proofs.PresentLemmas.{owned_is_available}
-use Rattle.cm_places.specs.Placed.{Placed}
 use Rattle.request_plan.specs.Acts.{IsSwitchOf}
 use Rattle.request_plan.specs.Situations.{IsSituation, IsSeenOf}
 use Rattle.request_plan.specs.declared.acts.Conclusion.{Conclusion}
@@ -27,11 +25,13 @@ use Rattle.request_plan.specs.declared.acts.Switched.{Switched}
 use Rattle.request_plan.specs.declared.situation.Situation.{Situation}
 use Rattle.request_plan.proofs.SituationLemmas.{chained_among}
 use Rattle.sound_laws.proofs.BoundaryLemmas.{concluded_steady}
-use Rattle.cm_desk.specs.CycleResources.{Base}
+use Rattle.cm_resources.specs.CycleResources.{Base}
 use Rattle.cm_desk.specs.Begin.{IsNext, CanAct}
-use Rattle.cm_desk.specs.ActiveSet.{Listed}
-use Rattle.cm_desk.specs.Works.{IsAsDescribed, IsKept, CanCommit}
-use Rattle.cm_desk.proofs.CommitLemmas.{places_within}
+use Rattle.cm_resources.specs.ActiveSet.{Listed}
+use Rattle.cm_resources.specs.Described.{IsAsDescribed}
+use Rattle.cm_desk.specs.Works.{IsKept}
+use Rattle.cm_resources.specs.Commits.{CanCommit}
+use Rattle.cm_resources.proofs.CommitLemmas.{places_within}
 
 -- ---- What requests are decided by
 
@@ -109,14 +109,3 @@ can_switch s after c names base listed kept steady is = record {
 pub can_act : (s : State) (asked : Request) (later : List Request) (c : Conclusion) → IsSteady s
     → IsNext s asked later c → CanAct s (concluded s asked).state c.act
 can_act s asked later c steady next = record { act = next.concluded.act; steady = concluded_steady s asked steady }
-
--- it can be with what works in a cycle as it is at home
-pub can_there : (s : State) (set again : Places) (places : Placed) (room : ℕ) (slots : List Loaded) (w : Wired)
-    (looked : Listed) (chains stops starts : List Bool) (places' : Placed) (room' : ℕ) (w' : Wired)
-    → CanCommit s set again places room slots w looked chains stops starts → places' ≡ places → room' ≡ room → w' ≡ w
-    → CanCommit s set again places' room' slots w' looked chains stops starts
-can_there s set again places room slots w looked chains stops starts places' room' w' can at_places of_room
-    of_hardware =
-    subst (λ (p : Placed). CanCommit s set again p room' slots w' looked chains stops starts) (sym at_places)
-    (subst (λ (n : ℕ). CanCommit s set again places n slots w' looked chains stops starts) (sym of_room)
-    (subst (λ (x : Wired). CanCommit s set again places room slots x looked chains stops starts) (sym of_hardware) can))

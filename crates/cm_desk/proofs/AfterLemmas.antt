@@ -1,6 +1,6 @@
 -- What the desk keeps of its state after a commit, after a move of a component, and after a cycle.
-use Rattle.std.proofs.Common.{◌≡◌, ℕ, ◌+◌, Bool, true, false, Result, Ok, Err, List, [], length, map}
-use Rattle.std.proofs.Common.{Option, Some, None, refl, sym, ap, subst, ◌∙◌, arith, vec_capacity}
+use Rattle.std.proofs.Common.{◌≡◌, ℕ, ◌+◌, Bool, true, false, Result, Ok, Err, List, [], length, map, Option, Some}
+use Rattle.std.proofs.Common.{None, refl, sym, ap, subst, ◌∙◌, arith, vec_capacity}
 use Rattle.std.specs.Prelude.{not, is_some, Box, IfSome, IsSomeAnd, OnErr}
 use Rattle.std.specs.List.{AllByRecursion}
 use Rattle.std.specs.declared.alloc.Global.{Global}
@@ -14,7 +14,6 @@ use Rattle.cm_model.specs.State.{State, Loaded, MailAloft}
 use Rattle.cm_model.specs.Steady.{IsSteady}
 use Rattle.cm_model.specs.declared.blanks.Blanks.{Blanks}
 use Rattle.cm_model.specs.declared.member.Member.{Member}
-use Rattle.cm_storage.specs.declared.record_room.RecordRoom.{RecordRoom}
 use Rattle.cm_hardware.specs.Holding.{IsHardwareOf, IsMoved}
 use Rattle.cm_hardware.specs.Listed.{with_hardware}
 use Rattle.cm_hardware.specs.Shown.{Shows}
@@ -26,23 +25,23 @@ use Rattle.cm_slots.specs.Fit.{AreFit}
 use Rattle.cm_slots.specs.Slots.{Slotted}
 use Rattle.cm_slots.proofs.FitLemmas.{fit_committed, fit_landed}
 use Rattle.request_plan.specs.Requests.{Asked}
-use Rattle.rt_flight.specs.Flights.{TellsNothing}
 use Rattle.rt_flight.specs.Workspaces.{IsFitted}
 use Rattle.rt_flight.specs.declared.context.CycleContext.{CycleContext}
 use Rattle.rt_flight.specs.declared.robot.Robot.{Robot}
 use Rattle.stop_plan.specs.Ending.{HasFlags, told_in, nobody_again}
-use Rattle.cm_desk.specs.CycleResources.{Base, base_of, stand_ins_for, HasLines, IsAtHome}
-use Rattle.cm_desk.specs.CycleResources.{IsBased, IsHome, IsMadeReady, IsRewired}
+use Rattle.cm_resources.specs.CycleResources.{Base, base_of, HasLines, IsAtHome, IsBased, IsHome, IsMadeReady}
+use Rattle.cm_resources.specs.CycleResources.{IsRewired}
 use Rattle.cm_desk.specs.End.{HasSettled}
-use Rattle.cm_desk.specs.ActiveSet.{Listed, serial_in}
-use Rattle.cm_desk.specs.CycleNeeds.{stands_for}
-use Rattle.cm_desk.specs.Works.{IsKept, IsWorkedOut, HasCommitted, state_with}
-use Rattle.cm_desk.specs.declared.resources.CycleResources.{CycleResources}
-use Rattle.cm_desk.specs.declared.resources.CycleBuffers.{CycleBuffers}
+use Rattle.cm_resources.specs.ActiveSet.{Listed, serial_in}
+use Rattle.cm_resources.specs.CycleNeeds.{stands_for}
+use Rattle.cm_desk.specs.Works.{stand_ins_for, IsKept, IsWorkedOut, state_with}
+use Rattle.cm_resources.specs.Commits.{HasCommitted}
+use Rattle.cm_resources.specs.declared.resources.CycleResources.{CycleResources}
+use Rattle.cm_resources.specs.declared.resources.CycleBuffers.{CycleBuffers}
 use Rattle.cm_desk.specs.declared.works.Works.TheInside.{Inside}
 use Rattle.cm_desk.proofs.Insides.{base_in, state_of}
-use Rattle.cm_desk.proofs.StayLemmas.{all_staying, commit_stays, landed_stays}
-use Rattle.cm_desk.proofs.StayLemmas.{count_stays, described_stay, divided_stay}
+use Rattle.cm_resources.proofs.StayLemmas.{all_staying, commit_stays, landed_stays, count_stays, described_stay}
+use Rattle.cm_resources.proofs.StayLemmas.{divided_stay}
 
 -- What else is kept of a base goes by these parts of it, where it is at home.
 pub record IsSameBase (before after : Base) : Type 0 where
@@ -76,63 +75,6 @@ rewired b b' box_places is = record {
   size = is.size;
   room = is.room;
 }
-
--- where what works in a cycle comes to rest again, with other hardware
-pub at_rest : (b left b' : CycleResources) (k r : Box CycleContext Global) (h : CycleContext)
-    → IsHome b.robot.value b.ending.value b.members.value.items b.erred.value.items b.next_lists.value k
-    → left ≡ record b { idle_context = None; room = left.room } → left.room ≡ b.room
-    → h ≡ k.value → r.value ≡ record h { robot = record h.robot { hardware = r.value.robot.hardware } }
-    → b' ≡ record left { idle_context = Some r; robot = b'.robot; told = false } → b'.robot.value ≡ r.value.robot
-    → IsRewired b b'
-at_rest b left b' k r h home away room taken same rests robot =
-    let aboard : h.robot ≡ b.robot.value = ap (λ (x : CycleContext). x.robot) taken ∙ home.robot in
-    let now : r.value.robot ≡ record b.robot.value { hardware = r.value.robot.hardware } =
-    ap (λ (x : CycleContext). x.robot) same
-    ∙ ap (λ (g : Robot). record g { hardware = r.value.robot.hardware }) aboard in
-    let ending : b'.ending.value ≡ b.ending.value =
-    ap (λ (x : CycleResources). x.ending.value) rests ∙ ap (λ (x : CycleResources). x.ending.value) away in
-    let sets : r.value.ending ≡ b.ending.value =
-    ap (λ (x : CycleContext). x.ending) same ∙ ap (λ (x : CycleContext). x.ending) taken ∙ home.ending in
-    let idle_context : b'.idle_context ≡ Some r = ap (λ (x : CycleResources). x.idle_context) rests in
-    let members : b'.members.value.items ≡ b.members.value.items =
-    ap (λ (x : CycleResources). x.members.value.items) rests
-    ∙ ap (λ (x : CycleResources). x.members.value.items) away in
-    let erred : b'.erred.value.items ≡ b.erred.value.items =
-    ap (λ (x : CycleResources). x.erred.value.items) rests ∙ ap (λ (x : CycleResources). x.erred.value.items) away in
-    let next_lists : b'.next_lists.value ≡ b.next_lists.value =
-    ap (λ (x : CycleResources). x.next_lists.value) rests ∙ ap (λ (x : CycleResources). x.next_lists.value) away in
-    let room_is : r.value.room ≡ k.value.room =
-    ap (λ (x : CycleContext). x.room) same ∙ ap (λ (x : CycleContext). x.room) taken in
-    record {
-      robot = robot ∙ now
-          ∙ ap (λ (w : Wired). record b.robot.value { hardware = w }) (sym (ap (λ (g : Robot). g.hardware) robot));
-      ending = ending;
-      home = subst
-          (λ (o : Option (Box CycleContext Global)). IsSomeAnd o
-          (IsHome b'.robot.value b'.ending.value b'.members.value.items b'.erred.value.items b'.next_lists.value))
-          (sym idle_context) (record {
-            robot = sym robot;
-            ending = sets ∙ sym ending;
-            order = ap (λ (x : CycleContext). x.order.items) same ∙ ap (λ (x : CycleContext). x.order.items) taken
-                ∙ home.order ∙ sym members;
-            erred = ap (λ (x : CycleContext). x.erred.items) same ∙ ap (λ (x : CycleContext). x.erred.items) taken
-                ∙ home.erred ∙ sym erred;
-            next_lists =
-                ap (λ (x : CycleContext). x.lists) same ∙ ap (λ (x : CycleContext). x.lists) taken ∙ home.next_lists
-                ∙ sym next_lists;
-            told = subst (λ (o : Option RecordRoom). IfSome o TellsNothing) (sym room_is) home.told;
-          });
-      mails = ap (λ (x : CycleResources). x.mails.value.items) rests
-          ∙ ap (λ (x : CycleResources). x.mails.value.items) away;
-      buffers = ap (λ (x : CycleResources). x.buffers) rests ∙ ap (λ (x : CycleResources). x.buffers) away;
-      members = members;
-      erred = erred;
-      lists = ap (λ (x : CycleResources). x.lists) rests ∙ ap (λ (x : CycleResources). x.lists) away;
-      untold = ap (λ (x : CycleResources). x.told) rests;
-      next_lists = next_lists;
-      size = ap (λ (x : CycleResources). x.size) rests ∙ ap (λ (x : CycleResources). x.size) away;
-      room = ap (λ (x : CycleResources). x.room) rests ∙ room;
-    }
 
 -- where no cycle is aloft all is at home
 home_from : (P : Box CycleContext Global → Type 0) (o : Option (Box CycleContext Global)) → is_some o ≡ true

@@ -46,14 +46,15 @@ use Rattle.sound_laws.proofs.SerialLemmas.{renumbered_numbered, effect_renumbere
 use Rattle.cm_desk.specs.Begin.{none_waits, IsNext, CanAct}
 use Rattle.cm_slots.specs.Fit.{IsTimedIn}
 use Rattle.cm_slots.specs.Updates.{HasTime}
-use Rattle.cm_desk.specs.CycleResources.{Base, stand_ins_for, HasLines, IsBased}
-use Rattle.cm_desk.specs.ActiveSet.{Listed, IsListedOf, actives}
-use Rattle.cm_desk.specs.Works.{IsAsDescribed, IsKept, state_with}
-use Rattle.cm_desk.proofs.ActiveLemmas.{IsSameOne, actives_map, same_serial, same_order, hardware_stays}
+use Rattle.cm_resources.specs.CycleResources.{Base, HasLines, IsBased}
+use Rattle.cm_resources.specs.ActiveSet.{Listed, IsListedOf, actives}
+use Rattle.cm_resources.specs.Described.{IsAsDescribed}
+use Rattle.cm_desk.specs.Works.{stand_ins_for, IsKept, state_with}
+use Rattle.cm_resources.proofs.ActiveLemmas.{IsSameOne, actives_map, same_serial, same_order, hardware_stays}
 use Rattle.cm_slots.proofs.FitLemmas.{fit_begun}
-use Rattle.cm_desk.proofs.OrderLemmas.{order_within}
-use Rattle.cm_desk.proofs.StayLemmas.{all_staying, begun_stays, serials_stay, count_stays}
-use Rattle.cm_desk.proofs.StayLemmas.{described_stay, divided_stay, concluded_stays}
+use Rattle.cm_resources.proofs.OrderLemmas.{order_within}
+use Rattle.cm_resources.proofs.StayLemmas.{all_staying, begun_stays, serials_stay, count_stays}
+use Rattle.cm_resources.proofs.StayLemmas.{described_stay, divided_stay, concluded_stays}
 
 -- ---- When a cycle can begin
 

@@ -1,11 +1,8 @@
 -- A desk may cross threads where its boxes may.
 use denote.RattleType.{RattleType}
-use denote.Builtin.{u32}
-use denote.Hole.{as_row}
 use denote.Param.Send.{IsSend, sendable, view_send}
 use denote.Param.SendFields.{declared_send, as_row_send}
 use Rattle.std.proofs.Crossing as heap
-use Rattle.std.proofs.Crossing.{crosses}
 use Rattle.std.specs.contracts.alloc.Global as Heap
 use Rattle.std.specs.contracts.impls.GlobalAllocator.TheImpl.{ghosts as heap_ghosts}
 use Rattle.std.specs.contracts.vec.Vec as Vec
@@ -16,29 +13,16 @@ use Rattle.cm_document.proofs.description.CtlKind.TheSendSync as kind
 use Rattle.ctl_trait.specs.declared.controller.Controller.{Ghosts}
 use Rattle.std.specs.contracts.snapshot.Snapshot as Snapshot
 use Rattle.std.specs.contracts.option.Option as Option
-use Rattle.rt_flight.specs.contracts.robot.Robot as Robot
 use Rattle.cm_slots.specs.contracts.slot.Slot as Slot
 use Rattle.cm_slots.specs.contracts.slot.Slot.TheInside as SlotInside
 use Rattle.cm_slots.specs.contracts.slots.Slots as Slots
 use Rattle.cm_slots.specs.contracts.slots.Slots.TheInside as SlotsInside
 use Rattle.cm_model.specs.contracts.entry.Entry as Entry
 use Rattle.cm_model.proofs.entry.Entry.TheSendSync as entry
-use Rattle.cm_model.specs.contracts.member.Member as Member
 use Rattle.cm_model.proofs.blanks.Blanks.TheSendSync as blanks
-use Rattle.std.specs.contracts.boxed.Box as Box
-use Rattle.rt_flight.specs.contracts.context.CycleContext as CycleContext
-use Rattle.rt_flight.proofs.context.CycleContext.TheSendSync as context
 use Rattle.rt_flight.specs.contracts.cell.Cell as Cell
 use Rattle.rt_flight.proofs.cell.Cell.TheSendSync as cell
-use Rattle.stop_plan.specs.contracts.ending.Ending as Ending
-use Rattle.cm_slots.specs.contracts.mails.MailAloft as MailAloft
-use Rattle.cm_slots.proofs.room.Room.TheSendSync as room
-use Rattle.cm_hardware.specs.contracts.lists.Lists as Lists
-use Rattle.cm_hardware.proofs.lists.Lists.TheSendSync as lists
-use Rattle.cm_desk.proofs.resources.CycleBuffers.TheSendSync as buffers
-use Rattle.cm_desk.proofs.needs.HardwareSize.TheSendSync as size
-use Rattle.cm_desk.proofs.active_set.ActiveSet.TheSendSync as active_set
-use Rattle.cm_desk.specs.contracts.resources.CycleResources as CycleResources
+use Rattle.cm_resources.proofs.active_set.ActiveSet.TheSendSync as active_set
 use Rattle.cm_desk.specs.contracts.works.Works as Works
 use Rattle.cm_desk.specs.contracts.works.Works.TheInside as WorksInside
 use Rattle.cm_desk.specs.contracts.desk.Desk as Desk
@@ -50,9 +34,7 @@ use Rattle.iface_names.specs.contracts.name.Name as Name
 use Rattle.iface_names.proofs.name.Name.TheSendSync as name
 use Rattle.sequence.specs.contracts.shared.Shared as Shared
 use Rattle.sequence.proofs.shared.Shared.TheSendSync as shared
-
-snapshot_send : (T : RattleType) → IsSend (Snapshot.the_row T)
-snapshot_send T = search (sendable, crosses) depth 40
+use Rattle.cm_resources.proofs.Crossing.{resources_send, snapshot_send, vec_send}
 
 slot_send : (C : RattleType) (m : Ghosts C.Denot) → IsSend C → IsSend (Slot.the_row C m)
 slot_send C m s = view_send _ _ _ _ _ (declared_send (SlotInside.the_type C m) (
@@ -89,37 +71,6 @@ slots_send C m s =
         (search sendable, (search sendable, tt)),
       ),
     ))
-
-vec_send : (T : RattleType) → IsSend T → IsSend (as_row (Vec.the_field T Heap.the_row heap_ghosts))
-vec_send T s = as_row_send (Vec.the_field T Heap.the_row heap_ghosts) (heap.Vec-send T s)
-
-seen_send : (T : RattleType) → IsSend (as_row (Snapshot.the_field T))
-seen_send T = as_row_send (Snapshot.the_field T) (snapshot_send T)
-
-resources_send : IsSend CycleResources.the_row
-resources_send = declared_send CycleResources.the_type (
-  option.the_send (Box.the_row CycleContext.the_row Heap.the_row heap_ghosts)
-      (heap.Box-send CycleContext.the_row context.the_send),
-  (
-    seen_send Robot.the_row,
-    (
-      seen_send Ending.the_row,
-      (
-        seen_send (Vec.the_row MailAloft.the_row Heap.the_row heap_ghosts),
-        (
-          seen_send (Vec.the_row Member.the_row Heap.the_row heap_ghosts),
-          (
-            seen_send (Vec.the_row u32 Heap.the_row heap_ghosts),
-            (
-              buffers.the_send,
-              (lists.the_send, (search sendable, (seen_send Lists.the_row, (size.the_send, (room.the_send, tt))))),
-            ),
-          ),
-        ),
-      ),
-    ),
-  ),
-)
 
 works_send : (C : RattleType) (m : Ghosts C.Denot) → IsSend C → IsSend (Works.the_row C m)
 works_send C m s = view_send _ _ _ _ _ (declared_send (WorksInside.the_type C m) (

@@ -28,10 +28,10 @@ use Rattle.stop_plan.proofs.EndingLemmas.{stays_committed}
 use Rattle.stop_plan.proofs.QuietLemmas.{quiet_end}
 use Rattle.switch_plan.specs.Relations.{Related, relations_of}
 use Rattle.cm_desk.specs.End.{HasLanded, HasSettled}
-use Rattle.cm_desk.specs.ActiveSet.{Listed, AreAt, IsListedOf, actives, serial_in}
-use Rattle.cm_desk.specs.Works.{CanCommit, HasCommitted}
-use Rattle.cm_desk.proofs.ActiveLemmas.{same_serial, same_order}
-use Rattle.cm_desk.proofs.StayLemmas.{Staying, stepped_stays, landed_stays, serials_stay, described_stay}
+use Rattle.cm_resources.specs.ActiveSet.{Listed, AreAt, IsListedOf, actives, serial_in}
+use Rattle.cm_resources.specs.Commits.{CanCommit, HasCommitted}
+use Rattle.cm_resources.proofs.ActiveLemmas.{same_serial, same_order}
+use Rattle.cm_resources.proofs.StayLemmas.{Staying, stepped_stays, landed_stays, serials_stay, described_stay}
 
 -- ---- Who is active when the cycle has landed
 

@@ -21,7 +21,8 @@ use Rattle.sound_laws.proofs.ActiveLemmas.{from_active_order}
 use Rattle.stop_plan.specs.Ending.{told_in, erred_in, member_of, members_in_order}
 use Rattle.switch_plan.proofs.ElementLemmas.{here, later, Contains-map, Contains-map_back}
 use Rattle.switch_plan.proofs.ElementLemmas.{found, not_found, filter_back}
-use Rattle.cm_desk.specs.CycleResources.{place_among, fallbacks_at, stand_ins_for}
+use Rattle.cm_resources.specs.CycleResources.{place_among}
+use Rattle.cm_desk.specs.Works.{fallbacks_at, stand_ins_for}
 
 -- the fallbacks at a place are those of the controller there
 at_place : (cs : List CtlDesc) (place : ℕ)

@@ -35,9 +35,9 @@ use Rattle.std.proofs.lemmas.Option.{get_or_from_slice_get}
 use Rattle.switch_plan.specs.Relations.{Related}
 use Rattle.sequence.proofs.ListLemmas.{head_same, tail_same}
 use Rattle.cm_desk.specs.Filling.{cells_filled, cell_of}
-use Rattle.cm_desk.specs.CycleNeeds.{AreWorkspacesFor, HasRoom, outs_at, numbers_at}
-use Rattle.cm_desk.specs.Works.{IsAsDescribed}
-use Rattle.cm_desk.proofs.WorksLemmas.{described_there}
+use Rattle.cm_resources.specs.CycleNeeds.{AreWorkspacesFor, HasRoom, outs_at, numbers_at}
+use Rattle.cm_resources.specs.Described.{IsAsDescribed}
+use Rattle.cm_resources.proofs.DescribedLemmas.{described_there}
 
 -- ---- Who came to their cells
 

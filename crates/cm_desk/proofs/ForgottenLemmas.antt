@@ -11,13 +11,13 @@ use Rattle.request_plan.specs.Requests.{Asked}
 use Rattle.request_plan.specs.declared.plans.Plan.{Plan}
 use Rattle.rt_flight.specs.Workspaces.{IsFitted}
 use Rattle.rt_flight.specs.declared.robot.Robot.{Robot}
-use Rattle.cm_desk.specs.CycleResources.{Base, base_of, HasForgotten, IsMadeReady}
+use Rattle.cm_resources.specs.CycleResources.{Base, base_of, HasForgotten, IsMadeReady}
 use Rattle.cm_desk.specs.Begin.{IsLeftOf}
-use Rattle.cm_desk.specs.ActiveSet.{Listed}
-use Rattle.cm_desk.specs.CycleNeeds.{AreKept, stands_for}
+use Rattle.cm_resources.specs.ActiveSet.{Listed}
+use Rattle.cm_resources.specs.CycleNeeds.{AreKept, stands_for}
 use Rattle.cm_desk.specs.Works.{IsKept, state_with}
-use Rattle.cm_desk.specs.declared.resources.CycleResources.{CycleResources}
-use Rattle.cm_desk.specs.declared.resources.CycleBuffers.{CycleBuffers}
+use Rattle.cm_resources.specs.declared.resources.CycleResources.{CycleResources}
+use Rattle.cm_resources.specs.declared.resources.CycleBuffers.{CycleBuffers}
 use Rattle.cm_desk.specs.declared.works.Works.TheInside.{Inside}
 use Rattle.cm_desk.proofs.AfterLemmas.{kept_idle, used_idle}
 use Rattle.cm_desk.proofs.Insides.{base_in, state_of}

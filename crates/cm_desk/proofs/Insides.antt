@@ -1,7 +1,7 @@
 -- What contracts see of what the desk keeps.
 use Rattle.std.specs.Prelude.{vec_capacity}
 use Rattle.cm_model.specs.State.{State}
-use Rattle.cm_desk.specs.CycleResources.{Base, base_of}
+use Rattle.cm_resources.specs.CycleResources.{Base, base_of}
 use Rattle.cm_desk.specs.Works.{state_with}
 use Rattle.cm_desk.specs.declared.works.Works.TheInside.{Inside}
 

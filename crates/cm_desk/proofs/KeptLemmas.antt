@@ -14,13 +14,14 @@ use Rattle.cm_model.specs.Blanks.{total}
 use Rattle.sound_laws.proofs.SerialLemmas.{serials_set}
 use Rattle.cm_slots.specs.Fit.{AreFit}
 use Rattle.stop_plan.specs.Ending.{members_in_order}
-use Rattle.cm_desk.specs.CycleResources.{Base}
-use Rattle.cm_desk.specs.ActiveSet.{Listed, AreAt, IsListedOf, actives, serials_of, is_listed}
-use Rattle.cm_desk.specs.Works.{IsAsDescribed, IsDivided, IsKept}
-use Rattle.cm_desk.proofs.ActiveLemmas.{IsSameOne, actives_set, actives_push, actives_remove}
-use Rattle.cm_desk.proofs.ActiveLemmas.{same_serial, same_order, hardware_stays}
+use Rattle.cm_resources.specs.CycleResources.{Base}
+use Rattle.cm_resources.specs.ActiveSet.{Listed, AreAt, IsListedOf, actives, serials_of, is_listed}
+use Rattle.cm_resources.specs.Described.{IsAsDescribed, IsDivided}
+use Rattle.cm_desk.specs.Works.{IsKept}
+use Rattle.cm_resources.proofs.ActiveLemmas.{IsSameOne, actives_set, actives_push, actives_remove}
+use Rattle.cm_resources.proofs.ActiveLemmas.{same_serial, same_order, hardware_stays}
 use Rattle.cm_slots.proofs.FitLemmas.{fit_pushed, fit_removed}
-use Rattle.cm_desk.proofs.OrderLemmas.{order_loaded}
+use Rattle.cm_resources.proofs.OrderLemmas.{order_loaded}
 use Rattle.cm_desk.proofs.WorksLemmas.{All-remove}
 
 -- the same controllers are active, and all that a cycle goes by is the same

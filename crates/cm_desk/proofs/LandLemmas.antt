@@ -24,16 +24,16 @@ use Rattle.rt_flight.specs.declared.context.CycleContext.{CycleContext}
 use Rattle.rt_flight.specs.declared.robot.Robot.{Robot}
 use Rattle.rt_flight.proofs.CycleLemmas.{board_moved, components_of}
 use Rattle.stop_plan.specs.Ending.{HasFlags, IsEndingOf, told_in, erred_in, member_of, members_in_order}
-use Rattle.cm_desk.specs.CycleResources.{base_of, place_among, HasLines}
+use Rattle.cm_resources.specs.CycleResources.{base_of, place_among, HasLines}
 use Rattle.cm_desk.specs.Filling.{CanLeave, HaveLeft}
 use Rattle.cm_desk.specs.End.{CanLand, CanComeHome, HasComeHome, CanSettle}
-use Rattle.cm_desk.specs.ActiveSet.{Listed}
-use Rattle.cm_desk.specs.CycleNeeds.{stands_for}
+use Rattle.cm_resources.specs.ActiveSet.{Listed}
+use Rattle.cm_resources.specs.CycleNeeds.{stands_for}
 use Rattle.cm_desk.specs.Works.{IsKept as KeepsState}
-use Rattle.cm_desk.specs.declared.resources.CycleResources.{CycleResources}
+use Rattle.cm_resources.specs.declared.resources.CycleResources.{CycleResources}
 use Rattle.cm_desk.proofs.AfterLemmas.{kept_ended}
 use Rattle.cm_desk.proofs.EndLemmas.{flags_from}
-use Rattle.cm_desk.proofs.OrderLemmas.{run_is}
+use Rattle.cm_resources.proofs.OrderLemmas.{run_is}
 
 -- the boxes have the data that the cycle gives their controllers,
 data_are : (loaded ls : List Loaded) (cs : List CellFacts) → AreCellsAfter loaded (map running_part ls) cs

@@ -1,13 +1,7 @@
 pub mod Insides
-pub mod ActiveSetLemmas
-pub mod NeedsLemmas
-pub mod ReadyLemmas
 pub mod AnswerLemmas
-pub mod ActiveLemmas
 pub mod KeptLemmas
-pub mod StayLemmas
 pub mod WorksLemmas
-pub mod CommitLemmas
 pub mod BeginLemmas
 pub mod FillingLemmas
 pub mod FlightLemmas
@@ -19,7 +13,6 @@ pub mod RecordLemmas
 pub mod LoopLemmas
 mod DeskRows
 pub mod ChangeLemmas
-pub mod OrderLemmas
 pub mod BootLemmas
 pub mod TimeLemmas
 pub mod SendLemmas

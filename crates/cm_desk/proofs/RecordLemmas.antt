@@ -39,7 +39,7 @@ use Rattle.sound_laws.proofs.SerialLemmas.{renumbered_numbered, effect_renumbere
 use Rattle.cm_hardware.specs.Wiring.{one_if}
 use Rattle.cm_desk.specs.Desk.{owed, seen, AreFew, LeavesFew, Keeps, Grows, CanBeCalled}
 use Rattle.cm_desk.proofs.BeginLemmas.{boundary_stays, loop_itself}
-use Rattle.cm_desk.proofs.StayLemmas.{begun_stays, count_stays}
+use Rattle.cm_resources.proofs.StayLemmas.{begun_stays, count_stays}
 
 -- ---- One entry more
 

@@ -43,23 +43,24 @@ use Rattle.sound_laws.proofs.ParamsLemmas.{all_at, all_each}
 use Rattle.sound_laws.proofs.RunLemmas.{ordered_once}
 use Rattle.sound_laws.proofs.ValidLemmas.{valid-IsChecked}
 use Rattle.switch_plan.specs.Relations.{Related, components_at, relations_of}
-use Rattle.cm_desk.specs.CycleResources.{base_of, HasLines, IsBased, IsMadeReady, IsPrepared}
+use Rattle.cm_resources.specs.CycleResources.{base_of, HasLines, IsBased, IsMadeReady, IsPrepared}
 use Rattle.cm_desk.specs.Begin.{CanTakeOff, HasTakenOff}
 use Rattle.cm_desk.specs.Filling.{cells_filled, CanFill}
-use Rattle.cm_desk.specs.ActiveSet.{Listed, IsListedOf}
-use Rattle.cm_desk.specs.CycleNeeds.{AreWorkspacesFor, HasRoom, IsFittedOut}
-use Rattle.cm_desk.specs.Works.{IsAsDescribed, IsDivided, IsKept as KeepsState}
-use Rattle.cm_desk.specs.declared.resources.CycleResources.{CycleResources}
-use Rattle.cm_desk.proofs.ActiveLemmas.{same_order, hardware_stays}
-use Rattle.cm_desk.proofs.BootLemmas.{loans_count}
+use Rattle.cm_resources.specs.ActiveSet.{Listed, IsListedOf}
+use Rattle.cm_resources.specs.CycleNeeds.{AreWorkspacesFor, HasRoom, IsFittedOut}
+use Rattle.cm_resources.specs.Described.{IsAsDescribed, IsDivided}
+use Rattle.cm_desk.specs.Works.{IsKept as KeepsState}
+use Rattle.cm_resources.specs.declared.resources.CycleResources.{CycleResources}
+use Rattle.cm_resources.proofs.ActiveLemmas.{same_order, hardware_stays}
+use Rattle.cm_resources.proofs.StartLemmas.{loans_count}
 use Rattle.cm_desk.proofs.BeginLemmas.{HasDecided, begun_actives, based_aloft, kept_aloft}
-use Rattle.cm_desk.proofs.StayLemmas.{begun_stays, serials_stay, described_stay, divided_stay}
-use Rattle.cm_desk.proofs.CommitLemmas.{connections, places_within}
+use Rattle.cm_resources.proofs.StayLemmas.{begun_stays, serials_stay, described_stay, divided_stay}
+use Rattle.cm_resources.proofs.CommitLemmas.{connections, places_within}
 use Rattle.cm_desk.proofs.EndLemmas.{leaders_count, flags_in}
 use Rattle.cm_desk.proofs.FlightLemmas.{connected, cells_filled_are, mailed_all, cells_are, members_are}
 use Rattle.cm_desk.proofs.FlightLemmas.{cells_fitted, cells_count, each_flies, can_tell, CanRunAs}
-use Rattle.cm_desk.proofs.OrderLemmas.{run_is, order_within, order_described}
-use Rattle.cm_desk.proofs.NeedsLemmas.{most_of, joints_of}
+use Rattle.cm_resources.proofs.OrderLemmas.{run_is, order_within, order_described}
+use Rattle.cm_resources.proofs.NeedsLemmas.{most_of, joints_of}
 use Rattle.cm_desk.proofs.TimeLemmas.{timely}
 
 -- ---- The lists

@@ -1,6 +1,6 @@
 -- What the desk's calls make of the loaded controllers.
-use Rattle.std.proofs.Common.{◌≡◌, ℕ, zero, suc, ◌<◌, Bool, true, false, Result, Ok, Err, List, [], ◌∷◌, length}
-use Rattle.std.proofs.Common.{get_or, take, drop, set, Option, Some, None, refl, sym, subst, ap, ◌∙◌, arith}
+use Rattle.std.proofs.Common.{◌≡◌, ℕ, zero, suc, ◌<◌, Bool, true, false, Result, Ok, Err, List, [], ◌∷◌, length, get_or}
+use Rattle.std.proofs.Common.{take, drop, set, Option, Some, None, refl, sym, subst, ap, ◌∙◌, arith}
 use Rattle.std.specs.Prelude.{◌==◌, ◌↔◌, slice_get, option_map, IsSomeAnd, OnOk, OnErr}
 use Rattle.std.specs.List.{All, remove}
 use Rattle.std.proofs.lemmas.List.{set-get_or}
@@ -8,11 +8,10 @@ use Rattle.std.proofs.lemmas.List.Elements.{All-append, All-take, All-drop}
 use Rattle.std.proofs.lemmas.Option.{same_Some, slice_get_within, slice_get_read, get_or_from_slice_get}
 use Rattle.cm_document.specs.Params.{kind_of}
 use Rattle.cm_document.specs.declared.description.CtlDesc.{CtlDesc}
-use Rattle.cm_document.specs.declared.description.CtlKind.{CtlKind}
 use Rattle.cm_document.specs.declared.description.Description.{Description}
 use Rattle.cm_document.specs.declared.description.Params.{Params}
-use Rattle.cm_model.specs.Console.{unless_refused, controller_in, controller_of, slot_of, reply_on}
-use Rattle.cm_model.specs.Console.{with_changed, without_slot, unload_refusals, unload_reply, moves_out}
+use Rattle.cm_model.specs.Console.{unless_refused, controller_in, controller_of, slot_of, reply_on, with_changed}
+use Rattle.cm_model.specs.Console.{without_slot, unload_refusals, unload_reply, moves_out}
 use Rattle.cm_model.specs.Controllers.{configured, CanBeConfigured}
 use Rattle.cm_model.specs.Kinds.{are_ranged, is_refused}
 use Rattle.cm_model.specs.Machine.{is_sold_out_at}
@@ -20,14 +19,16 @@ use Rattle.cm_model.specs.Order.{divisor}
 use Rattle.cm_model.specs.Blanks.{blanks_of}
 use Rattle.cm_model.specs.State.{State, Loaded, is_active}
 use Rattle.cm_model.specs.declared.data.CtlData.{CtlData}
-use Rattle.cm_model.specs.declared.reply.Reply.TheVariants as reply
 use Rattle.cm_model.specs.declared.reply.Why.{Why}
 use Rattle.cm_slots.proofs.LifeLemmas.{none_is}
 use Rattle.cm_slots.specs.Slots.{Slotted}
-use Rattle.cm_desk.specs.Works.{IsAsDescribed, IsDivided, IsConfigured}
-use Rattle.cm_desk.proofs.ActiveLemmas.{IsSameOne}
+use Rattle.cm_resources.specs.Described.{IsAsDescribed, IsDivided}
+use Rattle.cm_desk.specs.Works.{IsConfigured}
+use Rattle.cm_resources.proofs.ActiveLemmas.{IsSameOne}
 use Rattle.ctl_trait.specs.declared.fault.CfgFault.{CfgFault}
 use Rattle.ctl_trait.specs.declared.fault.CfgFault.TheVariants.{Refused, Memory}
+use Rattle.cm_model.specs.declared.reply.Reply.TheVariants as reply
+use Rattle.cm_resources.proofs.DescribedLemmas.{kept_there}
 
 -- ---- Lists
 
@@ -36,22 +37,6 @@ pub All-remove : {X : Type 0} (P : X → Type 0) (xs : List X) (i : ℕ) → All
 All-remove P xs i all = All-append P (take i xs) (drop (suc i) xs) (All-take P i xs all) (All-drop P (suc i) xs all)
 
 -- ---- Places
-
-described_from : (o : Option CtlDesc) (kind : CtlKind) → option_map (λ c. kind_of c.params) o ≡ Some kind
-    → (c : CtlDesc) × (o ≡ Some c) × (kind_of c.params ≡ kind)
-described_from None kind e = cc
-described_from (Some c) kind e = (c, refl, cc)
-
--- the description of a loaded controller is there
-pub described_there : (d : Description) (l : Loaded) → IsAsDescribed d l
-    → (c : CtlDesc) × (slice_get d.controllers l.place ≡ Some c) × (kind_of c.params ≡ l.ctl.kind)
-described_there d l e = described_from (slice_get d.controllers l.place) l.ctl.kind e
-
--- the one that stands somewhere is as described
-pub kept_there : (d : Description) (ls : List Loaded) (i : ℕ) (l : Loaded) → All (IsAsDescribed d) ls
-    → slice_get ls i ≡ Some l → IsAsDescribed d l
-kept_there d ls i l described there =
-    subst (IsAsDescribed d) (get_or_from_slice_get ls i l l there) (described i l (slice_get_within ls i l there))
 
 -- ---- Blanks
 

@@ -25,10 +25,11 @@ use Rattle.cm_slots.specs.Slots.{Slotted}
 use Rattle.rt_flight.specs.Cells.{CellFacts}
 use Rattle.rt_flight.specs.Flights.{FlightFacts, IsAloft}
 use Rattle.stop_plan.specs.Ending.{HasFlags}
-use Rattle.cm_desk.specs.CycleResources.{HasLines, IsAtHome, IsPrepared}
-use Rattle.cm_desk.specs.ActiveSet.{AreAt, serials_of}
-use Rattle.cm_desk.specs.Works.{IsAsDescribed, IsDivided, IsWorkedOut}
-use Rattle.cm_desk.specs.declared.resources.CycleResources.{CycleResources}
+use Rattle.cm_resources.specs.CycleResources.{HasLines, IsAtHome, IsPrepared}
+use Rattle.cm_resources.specs.ActiveSet.{AreAt, serials_of}
+use Rattle.cm_resources.specs.Described.{IsAsDescribed, IsDivided}
+use Rattle.cm_desk.specs.Works.{IsWorkedOut}
+use Rattle.cm_resources.specs.declared.resources.CycleResources.{CycleResources}
 
 -- none of these requests waits for an outcome
 abbrev pub none_waits : List Request → List Outcome → Bool

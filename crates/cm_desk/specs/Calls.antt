@@ -1,2 +1,1 @@
-pub mod ActiveSets
 pub mod Answers

@@ -17,11 +17,11 @@ use Rattle.rt_flight.specs.Flights.{FlightFacts, IsComputed}
 use Rattle.rt_flight.specs.Workspaces.{IsFitted}
 use Rattle.rt_flight.specs.declared.context.CycleContext.{CycleContext}
 use Rattle.stop_plan.specs.Ending.{HasFlags, IsEndingOf, told_in, erred_in, members_in_order}
-use Rattle.cm_desk.specs.CycleResources.{place_among, HasLines, IsAtHome}
-use Rattle.cm_desk.specs.ActiveSet.{Listed, IsListedOf}
-use Rattle.cm_desk.specs.CycleNeeds.{stands_for}
-use Rattle.cm_desk.specs.Works.{IsAsDescribed}
-use Rattle.cm_desk.specs.declared.resources.CycleResources.{CycleResources}
+use Rattle.cm_resources.specs.CycleResources.{place_among, HasLines, IsAtHome}
+use Rattle.cm_resources.specs.ActiveSet.{Listed, IsListedOf}
+use Rattle.cm_resources.specs.CycleNeeds.{stands_for}
+use Rattle.cm_resources.specs.Described.{IsAsDescribed}
+use Rattle.cm_resources.specs.declared.resources.CycleResources.{CycleResources}
 
 -- The flight can land in this state, whose cycle is aloft, which is steady and whose serials differ: it is computed.
 pub record CanLand (s : State) (flight : FlightFacts) : Type 0 where

@@ -1,47 +1,47 @@
 -- What the desk keeps, and how it answers.
 use Rattle.std.specs.Prelude.{◌≡◌, ℕ, ◌+◌, ◌<◌, ◌≤◌, ◌^◌, Bool, true, false, not, List, [], ◌∷◌, length, map, slice_get}
-use Rattle.std.specs.Prelude.{◌&&◌, is_some, Some, option_map, Result, Ok, Err}
+use Rattle.std.specs.Prelude.{◌&&◌, Some, Result, Ok, Err, flat_map}
 use Rattle.std.specs.List.{All, list_any}
-use Rattle.cm_document.specs.Params.{kind_of}
+use Rattle.std.specs.Option.{option_map_or}
 use Rattle.cm_document.specs.Valid.{IsValid}
 use Rattle.cm_document.specs.declared.call.Mail.{Mail}
 use Rattle.cm_document.specs.declared.description.CtlDesc.{CtlDesc}
 use Rattle.cm_document.specs.declared.description.Description.{Description}
 use Rattle.cm_document.specs.declared.description.Params.{Params}
-use Rattle.cm_model.specs.Commit.{commit}
 use Rattle.cm_model.specs.Console.{unless_refused, place_of, reply_on, with_changed, configure_refusals}
 use Rattle.cm_model.specs.Console.{after_configure}
 use Rattle.cm_model.specs.Cycle.{period}
 use Rattle.cm_model.specs.Kinds.{takes, takes_none}
 use Rattle.cm_model.specs.Machine.{load_refusals}
-use Rattle.cm_model.specs.Order.{Places, set_of}
 use Rattle.cm_model.specs.State.{State, Loaded, is_active, precedes_described}
-use Rattle.cm_model.specs.Steady.{IsInOrder, AreLoaded, AreConfigured}
-use Rattle.cm_model.specs.Sound.{CanRunTogether}
 use Rattle.cm_model.specs.declared.blanks.Blanks.{Blanks}
 use Rattle.cm_model.specs.declared.reply.Reply.{Reply}
 use Rattle.cm_model.specs.declared.reply.Reply.TheVariants as reply
 use Rattle.cm_model.specs.declared.reply.Why.{Why}
 use Rattle.cm_model.specs.declared.reply.Why.TheVariants as why
-use Rattle.cm_hardware.specs.Wiring.{Wired}
-use Rattle.cm_hardware.specs.Holding.{IsHardwareOf, IsMoved}
+use Rattle.cm_hardware.specs.Holding.{IsHardwareOf}
 use Rattle.cm_hardware.specs.Listed.{with_hardware}
-use Rattle.cm_places.specs.Placed.{Placed, placed_of}
+use Rattle.cm_places.specs.Placed.{placed_of}
 use Rattle.cm_model.specs.Blanks.{total}
-use Rattle.cm_slots.specs.Commits.{TellCommit}
-use Rattle.cm_slots.specs.Connections.{widest}
 use Rattle.switch_plan.specs.Relations.{relations_of}
 pub use Rattle.request_plan.specs.Requests.{IsAnswered}
 use Rattle.request_plan.specs.Requests.{Asked}
 use Rattle.cm_slots.specs.Fit.{AreFit}
 use Rattle.cm_slots.specs.Slots.{Slotted}
-use Rattle.request_plan.specs.declared.acts.Switched.{Switched}
 use Rattle.rt_flight.specs.declared.robot.Robot.{Robot}
-use Rattle.cm_desk.specs.CycleResources.{Base, IsAtHome, IsBased, stand_ins_for}
-use Rattle.cm_desk.specs.ActiveSet.{Listed, IsListedOf, TellsActive}
-use Rattle.cm_desk.specs.declared.resources.CycleResources.{CycleResources}
+use Rattle.cm_resources.specs.CycleResources.{Base, IsBased}
+use Rattle.cm_resources.specs.ActiveSet.{Listed, IsListedOf}
+use Rattle.cm_resources.specs.Described.{IsAsDescribed, IsDivided}
 use Rattle.ctl_trait.specs.declared.fault.CfgFault.{CfgFault}
 use Rattle.ctl_trait.specs.declared.fault.CfgFault.TheVariants.{Refused, Memory}
+
+-- the fallbacks of the controller that is described at this place
+abbrev pub fallbacks_at : Description → ℕ → List (List ℕ)
+fallbacks_at d place = option_map_or (λ c. c.fallback) (slice_get d.controllers place) []
+
+-- who stands in for the controllers of these places, as they are described
+abbrev pub stand_ins_for : Description → List ℕ → List (List ℕ)
+stand_ins_for d places = flat_map (fallbacks_at d) places
 
 -- The state with these controllers loaded, by so many loads, and these requests, over this base, when so many cycles
 -- have ended.
@@ -64,17 +64,9 @@ state_with description blanks sessions loads slots asked base ended closed = wit
   closed = closed;
 }) base.robot.hardware
 
--- the controller is of the kind that is described at its place
-abbrev pub IsAsDescribed : Description → Loaded → Type 0
-IsAsDescribed d l = option_map (λ c. kind_of c.params) (slice_get d.controllers l.place) ≡ Some l.ctl.kind
-
 -- One of these that is active claims a reference of the controller.
 abbrev pub has_precedent : Description → CtlDesc → List Loaded → Bool
 has_precedent d c loaded = list_any (λ l. is_active l && precedes_described d.controllers c l) loaded
-
--- one that has parameters is updated once in some cycles
-abbrev pub IsDivided : Loaded → Type 0
-IsDivided l = is_some l.ctl.params ≡ true → is_some l.divisor ≡ true
 
 -- What is worked out of the description once: the names of its controllers; and over this robot, whom and what each has
 -- to do with, where their interfaces stand on the board, and the time from one cycle to the next.
@@ -103,58 +95,6 @@ pub record IsKept (s : State) (names : List (List ℕ)) (base : Base) (looked : 
   pub listed : IsListedOf s looked
   pub fit : AreFit s
   pub based : IsBased s.description s.aloft looked.order base
-
--- ---- A commit
-
--- A commit of this state can be made with these: its controllers and its hardware, which may have moved, where nobody
--- has what is not available; the places of interfaces, room for each controller, and who was looked up as active. The
--- flags tell the commit, after which this set is active, with some restarted by name.
-pub record CanCommit (s : State) (set again : Places) (places : Placed) (room : ℕ) (slots : List Loaded) (w : Wired)
-    (looked : Listed)
-    (chains stops starts : List Bool) : Type 0 where
-  pub valid : IsValid s.description
-  pub placed : places ≡ placed_of s.description
-  pub wide : room ≡ widest
-  pub loaded : slots ≡ s.loaded
-  pub described : All (IsAsDescribed s.description) s.loaded
-  pub hardware : IsMoved s w
-  pub listed : length looked.active ≡ length s.description.controllers
-  pub told : TellCommit s set again chains stops starts
-  pub in_order : IsInOrder s
-  pub all_loaded : AreLoaded s.loaded set
-  pub configured : AreConfigured s.loaded set
-  pub together : CanRunTogether s.description s.lives set
-
--- it was made
-pub record HasCommitted (s : State) (set again : Places) (slots : List Loaded) (w : Wired) (looked : Listed) : Type 0
-  where
-    pub loaded : slots ≡ (commit s set again).loaded
-    pub hardware : IsHardwareOf (commit s set again) w
-    pub active : TellsActive (length s.description.controllers) slots looked.active
-    pub stale : looked.current ≡ false
-
--- and else nothing changed: of what is looked up, the order and the indices; the room; and of the slots, whether a
--- cycle is aloft
-pub record KeepsRest (before after : Listed) (m n : ℕ) (old new : Slotted) : Type 0 where
-  pub order : after.order ≡ before.order
-  pub run : after.run ≡ before.run
-  pub width : n ≡ m
-  pub slots : new ≡ record old { loaded = new.loaded }
-
--- A switch can be done with these: what works in a cycle is at home, and the sets tell a commit that can be made.
-pub record CanSwitch (b : CycleResources) (slots : Slotted) (looked : Listed) (c : Switched) : Type 0 where
-  pub home : IsAtHome b
-  pub down : slots.aloft ≡ false
-  pub can : (s : State) × (again : Places)
-      × CanCommit s (set_of c.set) again b.robot.value.places b.room slots.loaded b.robot.value.hardware looked
-      c.chained c.stopped c.started
-
--- it was done
-abbrev pub HasSwitched : CycleResources → CycleResources → Slotted → Slotted → Listed → Listed → Switched → Type 0
-HasSwitched b b' slots slots' looked looked' c = (s : State) (again : Places)
-    → CanCommit s (set_of c.set) again b.robot.value.places b.room slots.loaded b.robot.value.hardware looked c.chained
-    c.stopped c.started
-    → HasCommitted s (set_of c.set) again slots'.loaded b'.robot.value.hardware looked'
 
 -- ---- Answers
 

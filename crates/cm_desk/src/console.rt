@@ -9,12 +9,14 @@ ghost use Rattle.cm_model.specs.Console.{send_refusals, send_effect, reply_on, m
 ghost use Rattle.cm_model.specs.Kinds.{are_ranged};
 ghost use Rattle.cm_model.specs.State.{is_active};
 ghost use Rattle.cm_model.specs.Steady.{IsSteady};
-ghost use Rattle.cm_desk.specs.Works.{IsAnswered, IsAsDescribed, IsConfigured, active_reply};
+ghost use Rattle.cm_desk.specs.Works.{IsAnswered, IsConfigured, active_reply};
+ghost use Rattle.cm_resources.specs.Described.{IsAsDescribed};
 
-use crate::works::{Works, described_at};
+use crate::works::Works;
 use chain_order::divisor;
 use cm_document::{Checked, CtlDesc, Mail, Params};
 use cm_model::{Reply, Why};
+use cm_resources::described_at;
 use cm_slots::Slot;
 use ctl_trait::{CfgFault, Controller, takes, takes_none};
 use fixed_num::Memory;
@@ -151,7 +153,7 @@ fn refusal_of_active(chained: bool, params: &Params, mail: &Mail) -> Option<Why>
 }
 
 /// The description of a loaded controller, whose parameters its box can be configured with.
-#[tactic(auto, using(crate::proofs::WorksLemmas::described_there, cm_model::proofs::RangedLemmas::described_params_are_ranged))]
+#[tactic(auto, using(cm_resources::proofs::DescribedLemmas::described_there, cm_model::proofs::RangedLemmas::described_params_are_ranged))]
 fn described<'a, C: Controller>(checked: &'a Checked, slot: &Slot<C>) -> &'a CtlDesc
     requires { IsAsDescribed checked.now slot.now }
     ensures same { slice_get checked.now.controllers slot.now.place ≡ Some result.now }

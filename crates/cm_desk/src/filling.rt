@@ -6,7 +6,7 @@ ghost use Rattle.cm_slots.specs.Lives.{IsKept};
 ghost use Rattle.cm_slots.specs.Mails.{mail_in, without_mail};
 ghost use Rattle.cm_desk.specs.Filling.{cells_filled, cell_of, AreGone, CanFill, CanLeave, HaveLeft};
 
-use crate::needs::empty;
+use cm_resources::empty;
 use cm_slots::{MailAloft, Slot, take_mail};
 use ctl_trait::Controller;
 use rt_flight::{Cell, Workspace};

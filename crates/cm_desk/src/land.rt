@@ -4,13 +4,11 @@ ghost use Rattle.std.specs.Prelude.{◌≡◌, ◌+◌, ◌<◌, Some, vec_capac
 ghost use Rattle.cm_model.specs.Cycle.{cycle, after_cycle};
 ghost use Rattle.cm_model.specs.State.{State};
 ghost use Rattle.cm_desk.specs.End.{CanLand, CanComeHome, HasComeHome, CanSettle, HasSettled, IsSettledIn};
-ghost use Rattle.cm_desk.specs.Works.{KeepsRest};
+ghost use Rattle.cm_resources.specs.Commits.{KeepsRest};
 
-use crate::active_set::ActiveSet;
-use crate::commits::commit;
 use crate::filling::empty_cells;
-use crate::resources::CycleResources;
 use crate::works::Works;
+use cm_resources::{ActiveSet, CycleResources, commit};
 use cm_slots::{Room, Slots};
 use cm_storage::CycleRecord;
 use ctl_trait::Controller;

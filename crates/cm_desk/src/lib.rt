@@ -5,11 +5,9 @@
 pub use book::Book;
 pub use desk::Desk;
 
-mod active_set;
 mod answer;
 mod begin;
 mod book;
-mod commits;
 mod console;
 mod cycles;
 mod desk;
@@ -17,9 +15,6 @@ mod filling;
 mod land;
 pub mod laws;
 mod lines;
-mod needs;
-mod resources;
-mod start;
 mod works;
 
 /// The entries of a book are fewer than this.

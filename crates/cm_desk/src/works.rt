@@ -8,11 +8,9 @@ ghost use Rattle.cm_model.specs.Machine.{is_loaded_at, is_sold_out_at, with_load
 ghost use Rattle.cm_model.specs.State.{boot};
 ghost use Rattle.cm_desk.specs.Works.{IsAnswered, load_reply};
 
-use crate::active_set::ActiveSet;
-use crate::resources::CycleResources;
-use crate::start::{at_start, names_of};
 use cm_document::{Checked, CtlDesc};
 use cm_model::{Reply, Why};
+use cm_resources::{ActiveSet, CycleResources, at_start, described_at};
 use cm_slots::{Slot, Slots};
 use cm_stock::Stock;
 use ctl_trait::Controller;
@@ -54,7 +52,7 @@ pub struct Works<C: Controller> {
 impl<C: Controller> Model for Works<C> {
     ghost use Rattle.std.specs.Prelude.{vec_capacity};
     ghost use Rattle.cm_model.specs.State.{State};
-    ghost use Rattle.cm_desk.specs.CycleResources.{base_of};
+    ghost use Rattle.cm_resources.specs.CycleResources.{base_of};
     ghost use Rattle.cm_desk.specs.Works.{state_with, IsKept};
 
     ghost Value = { State };
@@ -202,12 +200,13 @@ impl<C: Controller> Works<C> {
     }
 }
 
-/// The controller that is described at this place.
-#[tactic(auto, using(std::proofs::lemmas::Option::slice_get_read))]
-pub(crate) fn described_at(checked: &Checked, place: usize) -> &CtlDesc
-    requires { place < length checked.now.controllers }
-    ensures same { slice_get checked.now.controllers place ≡ Some result.now }
-    ensures valid { IsValid checked.now }
+/// The names of these controllers, each to be shared by all lines that tell it.
+fn names_of(alloc: Global, controllers: &[CtlDesc]) -> Result<Vec<Shared<Name>>, Memory>
+    ensures { IfOk result (λ names. names.items ≡ map (λ c. c.name) controllers.now) }
 {
-    &checked.description().controllers.as_slice()[place]
+    let mut names = Vec::with_capacity(alloc, controllers.len())?;
+    for controller in controllers {
+        names.push(Shared::new(alloc, controller.name.clone()?)?)?;
+    }
+    Ok(names)
 }

@@ -18,7 +18,7 @@ use outside_io::Sink;
 use std::alloc::Global;
 
 /// Runs the document that these bytes are, and draws its book.
-pub fn draw_made<K: Sink, C: Controller>(
+pub(crate) fn draw_made<K: Sink, C: Controller>(
     alloc: Global,
     written: &Written,
     made: Made,

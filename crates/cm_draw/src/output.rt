@@ -6,7 +6,7 @@ use outside_io::{Sink, write_whole};
 use std::io::Eprint;
 
 /// Writes a text, if there was memory for it.
-pub fn write_text<K: Sink>(sink: &mut K, text: Result<String, Memory>) -> Status {
+pub(crate) fn write_text<K: Sink>(sink: &mut K, text: Result<String, Memory>) -> Status {
     let Ok(text) = text else {
         return Status::Memory;
     };
@@ -17,7 +17,7 @@ pub fn write_text<K: Sink>(sink: &mut K, text: Result<String, Memory>) -> Status
 }
 
 /// Tells a status that is not `Ok` on standard error, as `cm` does, and gives the number that the program ends with.
-pub fn report<R: Eprint>(rt: &R, status: &Status) -> u8 {
+pub(crate) fn report<R: Eprint>(rt: &R, status: &Status) -> u8 {
     match status {
         Status::Ok => {}
         Status::BadWords => {

@@ -20,7 +20,7 @@ use outside_io::{ReadFault, Sink, Source, read_whole};
 use std::alloc::Global;
 
 /// Draws over the program's stock, which is that of `cm`.
-pub fn draw_stocked<S: Source, K: Sink>(
+pub(crate) fn draw_stocked<S: Source, K: Sink>(
     alloc: Global,
     asked: &DrawJob,
     source: &mut S,

@@ -17,7 +17,7 @@ use std::alloc::Global;
 use trace_check::{Replayed, replay_over};
 
 /// Draws the stored trace of the document that these bytes are, as far as it is legal.
-pub fn draw_traced<K: Sink, C: Controller>(
+pub(crate) fn draw_traced<K: Sink, C: Controller>(
     alloc: Global,
     written: &Written,
     bytes: &[u8],

@@ -4,7 +4,7 @@ use outside_io::{Failed, Sink};
 
 /// Takes all bytes, and keeps none.
 #[derive(Clone, Copy)]
-pub struct Unkept;
+pub(crate) struct Unkept;
 
 impl Sink for Unkept {
     ghost use Rattle.std.specs.Prelude.{None};

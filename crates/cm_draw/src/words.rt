@@ -10,7 +10,7 @@ use std::rt::Env;
 
 /// What is drawn.
 #[derive(Drop)]
-pub struct DrawJob {
+pub(crate) struct DrawJob {
     /// Whose run it is.
     pub drawn: Drawn,
     /// What is written of the run.
@@ -19,7 +19,7 @@ pub struct DrawJob {
 
 /// Whose run is drawn.
 #[derive(Drop)]
-pub enum Drawn {
+pub(crate) enum Drawn {
     /// The run that this job makes of a document.
     Made(Made),
     /// The run that a stored trace tells.
@@ -28,7 +28,7 @@ pub enum Drawn {
 
 /// A job that makes a run.
 #[derive(Clone, Copy)]
-pub enum Made {
+pub(crate) enum Made {
     /// The job `run`.
     Run,
     /// The job `steps`.
@@ -54,7 +54,7 @@ impl Made {
 
 /// What is written of a run.
 #[derive(Drop)]
-pub enum Written {
+pub(crate) enum Written {
     /// A page of SVG, with the document's name in the title; empty if none is given.
     Page(String),
     /// What was not done as asked or went wrong, and what would mend it, in words.
@@ -63,7 +63,7 @@ pub enum Written {
 
 /// What the words after the program's name ask for: the job, `run` where none is named, and behind it `--why`, or
 /// `--name` and the document's name.
-pub fn asked_of<E: Env + AllocGlobal>(rt: &E) -> Result<DrawJob, Status> {
+pub(crate) fn asked_of<E: Env + AllocGlobal>(rt: &E) -> Result<DrawJob, Status> {
     let words = given_words(rt)?;
     asked_by(rt.alloc(), words.as_slice())
 }

@@ -105,7 +105,7 @@ fn run_over<R, P, G, C>(
     alloc: Global,
     workers: u32,
     shared: &SharedDesk<C>,
-    sessions: Vec<Session>,
+    sessions: Vec<Session<'_>>,
     looping: LoopPass<C>,
     passes: Vec<Pass<C>>,
     cycles: u64,
@@ -119,7 +119,7 @@ where
     C: Controller + Send,
     requires { CanStart cycles shared.now.lock shared.now.at_first.value sessions.items looping.pass passes.items }
     ensures { IfOk result
-        (λ r. HasRun cycles shared.now.lock shared.now.at_first.value sessions.items r.0.pass r.1.items) }
+        (λ r. HasRun cycles shared.now.lock shared.now.at_first.value sessions.entry.items r.0.pass r.1.items) }
 {
     // No memory is taken once a thread has started.
     let room = Vec::with_capacity(alloc, passes.len())?;
@@ -134,16 +134,16 @@ where
 }
 
 /// Each session with the console of its pass, in order.
-fn with_ports<'a, R: Wait, C: Controller>(
+fn with_ports<'a, 's, R: Wait, C: Controller>(
     rt: &'a R,
     alloc: Global,
     shared: &'a SharedDesk<C>,
-    sessions: Vec<Session>,
+    sessions: Vec<Session<'s>>,
     passes: Vec<Pass<C>>,
-) -> Result<Vec<(Session, SessionPort<'a, R, C>)>, Memory>
+) -> Result<Vec<(Session<'s>, SessionPort<'a, R, C>)>, Memory>
     requires passes { All (IsSessionPass shared.now.lock shared.now.at_first.value) passes.items }
     requires as_many { length sessions.items ≡ length passes.items }
-    ensures sessions { IfOk result (λ pairs. map (λ s. s.0) pairs.items ≡ sessions.items) }
+    ensures sessions { IfOk result (λ pairs. map (λ s. s.0) pairs.items ≡ sessions.entry.items) }
     ensures passes { IfOk result (λ pairs. map (λ s. s.1.pass) pairs.items ≡ passes.items) }
 {
     let mut pairs = Vec::with_capacity(alloc, sessions.len())?;

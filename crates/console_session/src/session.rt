@@ -22,34 +22,34 @@ pub enum Progress {
     Ended,
 }
 
-/// An operator's session: its lines, how many of them it has made, and the ticket of its last request until it is told
-/// of it.
+/// An operator's session: its lines, which the script lends, how many of them it has made, and the ticket of its last
+/// request until it is told of it.
 #[derive(Debug, Drop)]
-pub struct Session {
+pub struct Session<'a> {
     who: u32,
-    text: SessionText,
+    text: &'a SessionText,
     line: u32,
     ticket: Option<u32>,
 }
 
-impl Model for Session {
+impl<'a> Model for Session<'a> {
     ghost use Rattle.std.specs.Prelude.{◌≤◌, length};
     ghost use Rattle.console_session.specs.Sessions.{SessionState, AreLines};
 
     ghost Value = { SessionState };
 
-    ghost view = { λ s. record { who = s.who; lines = s.text.lines; line = s.line; ticket = s.ticket } };
+    ghost view = { λ s. record { who = s.who; lines = s.text.now.lines; line = s.line; ticket = s.ticket } };
 
-    ghost invariant = { λ s. AreLines s.text.lines × (s.line ≤ length s.text.lines) };
+    ghost invariant = { λ s. AreLines s.text.now.lines × (s.line ≤ length s.text.now.lines) };
 }
 
-impl Session {
+impl<'a> Session<'a> {
     ghost use Rattle.std.specs.Prelude.{◌≤◌, Some, is_none};
 
     /// A session of this number before its first line.
-    pub fn make(who: u32, text: SessionText) -> Session
-        requires { AreLines text.lines }
-        ensures { result ≡ at_first who text.lines }
+    pub fn make(who: u32, text: &'a SessionText) -> Session<'a>
+        requires { AreLines text.now.lines }
+        ensures { result ≡ at_first who text.now.lines }
     {
         Session {
             who,
@@ -189,7 +189,7 @@ fn await_cycles<P: Port>(port: &mut P, cycles: u64) -> Result<Option<Reply>, Mem
     Ok(None)
 }
 
-/// A copy of a line, which stays with the session.
+/// A copy of a line, which its console keeps.
 fn copy_of(call: &Call) -> Result<Call, Memory>
     ensures { IfOk result (λ copy. copy ≡ call.now) }
 {

@@ -18,14 +18,16 @@ pub fn few_enough(description: &Description) -> Result<(), CheckFault>
     let controllers = description.controllers.as_slice();
     let groups = description.groups.as_slice();
     let limits = limits_of(description.version);
+    let robot = count_robot(components);
+    let linked = count_links(controllers);
     limited(What::Components, components.len(), limits.components)?;
-    limited(What::Joints, joints(components), limits.joints)?;
-    limited(What::States, states(components), limits.states)?;
-    limited(What::Commands, commands(components), limits.commands)?;
+    limited(What::Joints, robot.joints, limits.joints)?;
+    limited(What::States, robot.states, limits.states)?;
+    limited(What::Commands, robot.commands, limits.commands)?;
     limited(What::Controllers, controllers.len(), limits.controllers)?;
-    limited(What::References, references(controllers), limits.references)?;
-    limited(What::Claims, claims(controllers), limits.claims)?;
-    limited(What::Reads, reads(controllers), limits.reads)?;
+    limited(What::References, linked.references, limits.references)?;
+    limited(What::Claims, linked.claims, limits.claims)?;
+    limited(What::Reads, linked.reads, limits.reads)?;
     limited(What::Groups, groups.len(), limits.groups)
 }
 
@@ -39,90 +41,71 @@ fn limited(what: What, number: usize, limit: usize) -> Result<(), CheckFault>
     Ok(())
 }
 
-/// How many joints there are.
-fn joints(components: &[CompDesc]) -> usize
-    ensures { result ≡ counted (length (joints_of components.now)) }
-{
-    let mut count = 0usize;
-    for component in components {
-        count = count.saturating_add(component.joints.as_slice().len());
-    }
-    count
+/// How many joints and interfaces components have.
+#[derive(Clone, Copy)]
+struct RobotCounts {
+    joints: usize,
+    states: usize,
+    commands: usize,
 }
 
-/// How many state interfaces there are.
-fn states(components: &[CompDesc]) -> usize
-    ensures { result ≡ counted (length (states_of components.now)) }
+/// How many joints these components have, and how many interfaces those have.
+fn count_robot(components: &[CompDesc]) -> RobotCounts
+    ensures joints { result.joints ≡ counted (length (joints_of components.now)) }
+    ensures states { result.states ≡ counted (length (states_of components.now)) }
+    ensures commands { result.commands ≡ counted (length (commands_of components.now)) }
 {
-    let mut count = 0usize;
+    let (mut joints, mut states, mut commands) = (0usize, 0usize, 0usize);
     for component in components {
-        count = count.saturating_add(states_in(component.joints.as_slice()));
+        let own = component.joints.as_slice();
+        let (own_states, own_commands) = count_interfaces(own);
+        joints = joints.saturating_add(own.len());
+        states = states.saturating_add(own_states);
+        commands = commands.saturating_add(own_commands);
     }
-    count
+    RobotCounts {
+        joints,
+        states,
+        commands,
+    }
 }
 
-/// How many state interfaces these joints have.
-fn states_in(joints: &[JointDesc]) -> usize
-    ensures { result ≡ counted (length (flat_map states_of_joint joints.now)) }
+/// How many states these joints have, and how many commands.
+fn count_interfaces(joints: &[JointDesc]) -> (usize, usize)
+    ensures states { result.0 ≡ counted (length (flat_map states_of_joint joints.now)) }
+    ensures commands { result.1 ≡ counted (length (flat_map commands_of_joint joints.now)) }
 {
-    let mut count = 0usize;
+    let (mut states, mut commands) = (0usize, 0usize);
     for joint in joints {
-        count = count.saturating_add(joint.states.as_slice().len());
+        states = states.saturating_add(joint.states.as_slice().len());
+        commands = commands.saturating_add(joint.commands.as_slice().len());
     }
-    count
+    (states, commands)
 }
 
-/// How many command interfaces of components there are.
-fn commands(components: &[CompDesc]) -> usize
-    ensures { result ≡ counted (length (commands_of components.now)) }
-{
-    let mut count = 0usize;
-    for component in components {
-        count = count.saturating_add(commands_in(component.joints.as_slice()));
-    }
-    count
+/// How many interfaces controllers export, claim and read.
+#[derive(Clone, Copy)]
+struct LinkCounts {
+    references: usize,
+    claims: usize,
+    reads: usize,
 }
 
-/// How many command interfaces these joints have.
-fn commands_in(joints: &[JointDesc]) -> usize
-    ensures { result ≡ counted (length (flat_map commands_of_joint joints.now)) }
+/// How many references, claims and reads these controllers have together.
+fn count_links(controllers: &[CtlDesc]) -> LinkCounts
+    ensures references { result.references ≡ counted (length (references_of controllers.now)) }
+    ensures claims { result.claims ≡ counted (sum_by (λ c. length c.claims) controllers.now) }
+    ensures reads { result.reads ≡ counted (sum_by (λ c. length c.reads) controllers.now) }
 {
-    let mut count = 0usize;
-    for joint in joints {
-        count = count.saturating_add(joint.commands.as_slice().len());
-    }
-    count
-}
-
-/// How many references there are.
-fn references(controllers: &[CtlDesc]) -> usize
-    ensures { result ≡ counted (length (references_of controllers.now)) }
-{
-    let mut count = 0usize;
+    let (mut references, mut claims, mut reads) = (0usize, 0usize, 0usize);
     for controller in controllers {
-        count = count.saturating_add(controller.exported_for().len());
+        references = references.saturating_add(controller.exported_for().len());
+        claims = claims.saturating_add(controller.claims.as_slice().len());
+        reads = reads.saturating_add(controller.reads().len());
     }
-    count
-}
-
-/// How many claims all controllers have together.
-fn claims(controllers: &[CtlDesc]) -> usize
-    ensures { result ≡ counted (sum_by (λ c. length c.claims) controllers.now) }
-{
-    let mut count = 0usize;
-    for controller in controllers {
-        count = count.saturating_add(controller.claims.as_slice().len());
+    LinkCounts {
+        references,
+        claims,
+        reads,
     }
-    count
-}
-
-/// How many reads all controllers have together.
-fn reads(controllers: &[CtlDesc]) -> usize
-    ensures { result ≡ counted (sum_by (λ c. length c.reads) controllers.now) }
-{
-    let mut count = 0usize;
-    for controller in controllers {
-        count = count.saturating_add(controller.reads().len());
-    }
-    count
 }

@@ -26,14 +26,14 @@ use std::thread::Threads;
 /// How far a run has come: its desk, with the history, where each session stands, and the flight of the cycle that is
 /// aloft, if one is.
 #[derive(Drop)]
-pub struct RunningJob<C: Controller> {
+pub struct RunningJob<'a, C: Controller> {
     desk: Desk<C>,
-    sessions: Vec<Session>,
+    sessions: Vec<Session<'a>>,
     /// It is computed before it lands.
     flight: Option<Flight<C>>,
 }
 
-impl<C: Controller> Model for RunningJob<C> {
+impl<'a, C: Controller> Model for RunningJob<'a, C> {
     ghost use Rattle.desk_turns.specs.Jobs.{AreSessionsOf, HasFlight, JobFacts};
 
     ghost Value = { JobFacts };
@@ -43,7 +43,7 @@ impl<C: Controller> Model for RunningJob<C> {
     ghost invariant = { λ j. AreSessionsOf j.desk j.sessions.items × HasFlight j.desk j.flight };
 }
 
-impl<C: Controller> RunningJob<C> {
+impl<'a, C: Controller> RunningJob<'a, C> {
     ghost use Rattle.cm_model.specs.Machine.{can_begin, can_end, can_close};
     ghost use Rattle.cm_model.specs.Scheduled.{settle_all, looped, with_cycle};
     ghost use Rattle.std.specs.Prelude.{◌&&◌};
@@ -54,9 +54,9 @@ impl<C: Controller> RunningJob<C> {
     pub fn start(
         alloc: Global,
         checked: Checked,
-        script: &Script,
+        script: &'a Script,
         stock: Stock<C>,
-    ) -> Result<RunningJob<C>, Memory>
+    ) -> Result<RunningJob<'a, C>, Memory>
         requires few { length script.now.sessions < 2 ^ 32 }
         requires lines { All (λ s. AreLines s.lines) script.now.sessions }
         ensures opening { IfOk result
@@ -83,7 +83,7 @@ impl<C: Controller> RunningJob<C> {
 
     /// Its desk, with all that it did.
     pub fn into_desk(self) -> Desk<C>
-        ensures desk { result ≡ self.desk }
+        ensures desk { result ≡ self.entry.desk }
         ensures right { IsRight result }
     {
         let RunningJob { desk, .. } = self;
@@ -215,7 +215,7 @@ impl<C: Controller> RunningJob<C> {
 /// A flight that is out is computed by so many workers, if it was not started yet.
 pub(crate) fn compute_by<R: Threads + Sync, C: Controller + Send>(
     rt: &R,
-    job: &mut RunningJob<C>,
+    job: &mut RunningJob<'_, C>,
     workers: u32,
 )
     ensures { job.new ≡ job.old }
@@ -248,7 +248,7 @@ fn compute_once_by<R: Threads + Sync, C: Controller + Send>(
 }
 
 /// Whether none of these sessions has a call left.
-fn are_ended(sessions: &[Session]) -> bool
+fn are_ended(sessions: &[Session<'_>]) -> bool
     ensures { result ≡ are_through sessions.now }
 {
     sessions.iter().all(|session| session.ended())
@@ -257,7 +257,7 @@ fn are_ended(sessions: &[Session]) -> bool
 /// The sessions of a desk settle in order.
 fn settle_each<C: Controller>(
     alloc: Global,
-    sessions: &mut [Session],
+    sessions: &mut [Session<'_>],
     desk: &mut Desk<C>,
 ) -> Result<(), Memory>
     requires { AreSessionsOf desk.old sessions.old }
@@ -276,7 +276,7 @@ fn settle_each<C: Controller>(
 /// A session settles: it advances over the console of its number until it cannot.
 fn settle<C: Controller>(
     alloc: Global,
-    session: &mut Session,
+    session: &mut Session<'_>,
     desk: &mut Desk<C>,
 ) -> Result<(), Memory>
     requires { session.old.who < desk.old.opening.sessions }
@@ -294,7 +294,7 @@ fn settle<C: Controller>(
 fn step<C: Controller>(
     alloc: Global,
     who: u32,
-    sessions: &mut [Session],
+    sessions: &mut [Session<'_>],
     desk: &mut Desk<C>,
 ) -> Result<(), Memory>
     requires { AreSessionsOf desk.old sessions.old }

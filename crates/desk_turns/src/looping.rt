@@ -49,7 +49,7 @@ pub(crate) trait Moves: Sized {
         ensures { OnOk result (GoesOn (turned turn.now) (facts self.old) (facts self.new)) };
 }
 
-impl<C: Controller> Moves for RunningJob<C> {
+impl<'a, C: Controller> Moves for RunningJob<'a, C> {
     ghost facts = { λ j. j };
 
     fn cycles_ended(&self) -> u64 {
@@ -214,12 +214,12 @@ where
 }
 
 /// The job `run` over a checked description and a script, made to its end on one thread.
-pub fn run_job<C: Controller>(
+pub fn run_job<'a, C: Controller>(
     alloc: Global,
     checked: Checked,
-    script: &Script,
+    script: &'a Script,
     stock: Stock<C>,
-) -> Result<RunningJob<C>, Memory>
+) -> Result<RunningJob<'a, C>, Memory>
     requires few { length script.now.sessions < 2 ^ 32 }
     requires lines { All (λ s. AreLines s.lines) script.now.sessions }
     ensures opening { IfOk result
@@ -230,7 +230,7 @@ pub fn run_job<C: Controller>(
 {
     let count = checked.description().cycles;
     let mut job = RunningJob::start(alloc, checked, script, stock)?;
-    let nothing = |job: &mut RunningJob<C>|
+    let nothing = |job: &mut RunningJob<'_, C>|
         ensures { job.exit.now ≡ job.entry.now }
     {};
     match make_run(&mut job, alloc, count, &nothing) {
@@ -243,14 +243,14 @@ pub fn run_job<C: Controller>(
 }
 
 /// The same, where so many workers share each cycle.
-pub fn run_job_by<R: Threads + Sync, C: Controller + Send>(
+pub fn run_job_by<'a, R: Threads + Sync, C: Controller + Send>(
     rt: &R,
     alloc: Global,
     workers: u32,
     checked: Checked,
-    script: &Script,
+    script: &'a Script,
     stock: Stock<C>,
-) -> Result<RunningJob<C>, Memory>
+) -> Result<RunningJob<'a, C>, Memory>
     requires few { length script.now.sessions < 2 ^ 32 }
     requires lines { All (λ s. AreLines s.lines) script.now.sessions }
     ensures opening { IfOk result
@@ -261,7 +261,7 @@ pub fn run_job_by<R: Threads + Sync, C: Controller + Send>(
 {
     let count = checked.description().cycles;
     let mut job = RunningJob::start(alloc, checked, script, stock)?;
-    let compute = |job: &mut RunningJob<C>|
+    let compute = |job: &mut RunningJob<'_, C>|
         ensures { job.exit.now ≡ job.entry.now }
     { compute_by(rt, job, workers) };
     match make_run(&mut job, alloc, count, &compute) {
@@ -274,12 +274,12 @@ pub fn run_job_by<R: Threads + Sync, C: Controller + Send>(
 }
 
 /// The job `steps` over a checked description and a script, made to its end on one thread.
-pub fn run_in_steps<C: Controller>(
+pub fn run_in_steps<'a, C: Controller>(
     alloc: Global,
     checked: Checked,
-    script: &Script,
+    script: &'a Script,
     stock: Stock<C>,
-) -> Result<RunningJob<C>, Memory>
+) -> Result<RunningJob<'a, C>, Memory>
     requires few { length script.now.sessions < 2 ^ 32 }
     requires lines { All (λ s. AreLines s.lines) script.now.sessions }
     ensures opening { IfOk result
@@ -290,7 +290,7 @@ pub fn run_in_steps<C: Controller>(
 {
     let count = checked.description().cycles;
     let mut job = RunningJob::start(alloc, checked, script, stock)?;
-    let nothing = |job: &mut RunningJob<C>|
+    let nothing = |job: &mut RunningJob<'_, C>|
         ensures { job.exit.now ≡ job.entry.now }
     {};
     match make_steps(&mut job, alloc, script.schedule.as_slice(), count, &nothing) {
@@ -303,14 +303,14 @@ pub fn run_in_steps<C: Controller>(
 }
 
 /// The same, where so many workers share each cycle.
-pub fn run_in_steps_by<R: Threads + Sync, C: Controller + Send>(
+pub fn run_in_steps_by<'a, R: Threads + Sync, C: Controller + Send>(
     rt: &R,
     alloc: Global,
     workers: u32,
     checked: Checked,
-    script: &Script,
+    script: &'a Script,
     stock: Stock<C>,
-) -> Result<RunningJob<C>, Memory>
+) -> Result<RunningJob<'a, C>, Memory>
     requires few { length script.now.sessions < 2 ^ 32 }
     requires lines { All (λ s. AreLines s.lines) script.now.sessions }
     ensures opening { IfOk result
@@ -321,7 +321,7 @@ pub fn run_in_steps_by<R: Threads + Sync, C: Controller + Send>(
 {
     let count = checked.description().cycles;
     let mut job = RunningJob::start(alloc, checked, script, stock)?;
-    let compute = |job: &mut RunningJob<C>|
+    let compute = |job: &mut RunningJob<'_, C>|
         ensures { job.exit.now ≡ job.entry.now }
     { compute_by(rt, job, workers) };
     match make_steps(&mut job, alloc, script.schedule.as_slice(), count, &compute) {

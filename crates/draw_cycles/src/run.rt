@@ -71,34 +71,24 @@ fn draw_rows(alloc: Global, svg: &mut Svg, top: Px, run: Run<'_>) -> Result<(), 
 
 fn draw_controllers(alloc: Global, svg: &mut Svg, top: Px, run: Run<'_>) -> Result<(), Memory> {
     draw_heading(svg, top, "controllers")?;
-    for (place, row) in run.replay.controllers.iter().enumerate() {
-        let name = controller_name(run.description, place);
-        draw_row(alloc, svg, row_top(top, place), run, name, row)?;
+    let mut y = top.plus(Px::of(HEADING_HEIGHT));
+    let controllers = run.description.controllers.as_slice();
+    for (row, controller) in run.replay.controllers.iter().zip(controllers) {
+        draw_row(alloc, svg, y, run, controller.name.as_str(), row)?;
+        y = y.plus(Px::of(ROW_HEIGHT));
     }
     Ok(())
 }
 
 fn draw_components(alloc: Global, svg: &mut Svg, top: Px, run: Run<'_>) -> Result<(), Memory> {
     draw_heading(svg, top, "hardware")?;
-    for (place, row) in run.replay.components.iter().enumerate() {
-        let name = component_name(run.description, place);
-        draw_row(alloc, svg, row_top(top, place), run, name, row)?;
+    let mut y = top.plus(Px::of(HEADING_HEIGHT));
+    let components = run.description.components.as_slice();
+    for (row, component) in run.replay.components.iter().zip(components) {
+        draw_row(alloc, svg, y, run, component.name.as_str(), row)?;
+        y = y.plus(Px::of(ROW_HEIGHT));
     }
     Ok(())
-}
-
-fn controller_name(description: &Description, place: usize) -> &str {
-    match description.controllers.as_slice().get(place) {
-        Some(controller) => controller.name.as_str(),
-        None => "",
-    }
-}
-
-fn component_name(description: &Description, place: usize) -> &str {
-    match description.components.as_slice().get(place) {
-        Some(component) => component.name.as_str(),
-        None => "",
-    }
 }
 
 /// Where the row of this place begins, below a heading that begins at this height.

@@ -228,16 +228,37 @@ fn draw_edge(
         Edge::Claims { .. } => ("claims", "claims-tip", ended.to, "m-4 0l-9 -4v8z"),
         Edge::Reads { .. } | Edge::ReadsAll { .. } => ("reads", "reads-tip", from, "l9 -4v8z"),
     };
-    let steps = match (below, ended.edge) {
-        (Some(below), Edge::Reads { .. } | Edge::ReadsAll { .. }) => {
-            under(alloc, from, below, ended.to)?
-        }
-        _ => across(alloc, from, ended.to)?,
-    };
+    let steps = edge_steps(alloc, from, below, ended)?;
     svg.path(class, steps.as_str(), title)?;
-    let (x, y) = (tip_at.x, tip_at.y);
-    let tip = format!(in alloc; "M{x} {y}{tip}")?;
-    svg.path(tip_class, tip.as_str(), title)
+    draw_tip(alloc, svg, tip_at, tip_class, tip, title)
+}
+
+fn edge_steps(
+    alloc: Global,
+    from: PagePoint,
+    below: Option<Px>,
+    ended: Ended,
+) -> Result<String, Memory> {
+    match (below, ended.edge) {
+        (Some(below), Edge::Reads { .. } | Edge::ReadsAll { .. }) => {
+            under(alloc, from, below, ended.to)
+        }
+        _ => across(alloc, from, ended.to),
+    }
+}
+
+/// The tip of a line, by its steps from a point on.
+fn draw_tip(
+    alloc: Global,
+    svg: &mut Svg,
+    at: PagePoint,
+    class: &str,
+    steps: &str,
+    title: &str,
+) -> Result<(), Memory> {
+    let (x, y) = (at.x, at.y);
+    let tip = format!(in alloc; "M{x} {y}{steps}")?;
+    svg.path(class, tip.as_str(), title)
 }
 
 /// A line from point to point that begins and ends level.
@@ -262,30 +283,42 @@ fn edge_title(
     place: usize,
     edge: Edge,
 ) -> Result<String, Memory> {
-    let PlacedLinks { linked, ports, .. } = placed;
+    let linked = placed.linked;
     let controllers = linked.description.controllers.as_slice();
     let who = name_at(controllers, place);
-    let text = match edge {
-        Edge::Leads { follower } => {
-            let follower = name_at(controllers, follower);
-            format!(in alloc;
-                "{who} claims a reference of {follower}: it leads, and {follower} follows"
-            )?
-        }
+    match edge {
+        Edge::Leads { follower } => leads_title(alloc, who, name_at(controllers, follower)),
         Edge::ReadsAll { component } => {
             let component = component_name(linked.description, component);
-            format!(in alloc; "{who} reads all states of {component}")?
+            told(alloc, who, "reads all states of", component)
         }
-        Edge::Claims { port } => {
-            let port = ports.text(alloc, port, linked.joints)?;
-            format!(in alloc; "{who} claims {port}")?
-        }
-        Edge::Reads { port } => {
-            let port = ports.text(alloc, port, linked.joints)?;
-            format!(in alloc; "{who} reads {port}")?
-        }
-    };
-    Ok(text)
+        Edge::Claims { port } => port_title(alloc, placed, who, "claims", port),
+        Edge::Reads { port } => port_title(alloc, placed, who, "reads", port),
+    }
+}
+
+/// Who leads whom.
+fn leads_title(alloc: Global, who: &str, follower: &str) -> Result<String, Memory> {
+    Ok(format!(in alloc;
+        "{who} claims a reference of {follower}: it leads, and {follower} follows"
+    )?)
+}
+
+/// What a controller does with the interface at this place among the ports.
+fn port_title(
+    alloc: Global,
+    placed: PlacedLinks<'_>,
+    who: &str,
+    does: &str,
+    port: usize,
+) -> Result<String, Memory> {
+    let port = placed.ports.text(alloc, port, placed.linked.joints)?;
+    told(alloc, who, does, port.as_str())
+}
+
+/// Who does what with what.
+fn told(alloc: Global, who: &str, does: &str, what: &str) -> Result<String, Memory> {
+    Ok(format!(in alloc; "{who} {does} {what}")?)
 }
 
 fn name_at(controllers: &[CtlDesc], place: usize) -> &str {

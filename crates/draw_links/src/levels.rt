@@ -6,7 +6,7 @@ use fixed_num::Memory;
 use std::alloc::Global;
 
 /// How long the chains are that lead on from each controller, by place: 0 of one that leads nobody.
-pub fn heights(alloc: Global, links: &[ControllerLinks]) -> Result<Vec<usize>, Memory> {
+pub(crate) fn heights(alloc: Global, links: &[ControllerLinks]) -> Result<Vec<usize>, Memory> {
     let mut heights = vec![in alloc; 0usize; links.len()]?;
     // A chain has no more controllers than there are.
     for _length in links {

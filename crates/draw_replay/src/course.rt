@@ -2,7 +2,7 @@
 
 use crate::links::Link;
 use cm_document::{Description, JointDesc};
-use fixed_num::{Memory, Value};
+use fixed_num::{BodyState, Memory, StoredValue, Value};
 use iface_names::Kind;
 use std::alloc::Global;
 
@@ -152,5 +152,23 @@ fn push_courses(
 pub fn forget(courses: &mut Vec<JointCourse>, by: usize) {
     for course in courses {
         course.forget(by);
+    }
+}
+
+/// After a cycle of this column each joint is where its body is.
+pub fn reach(courses: &mut Vec<JointCourse>, bodies: &[BodyState], column: usize) {
+    for (place, course) in courses.iter_mut().enumerate() {
+        if let Some(body) = bodies.get(place) {
+            course.reach(column, body.x.micro());
+        }
+    }
+}
+
+/// The controller at this place gave these outputs at its claims.
+pub fn take_outs(courses: &mut Vec<JointCourse>, by: usize, claims: &[Link], outs: &[StoredValue]) {
+    for (number, claim) in claims.iter().enumerate() {
+        if let (Some(value), Some(course)) = (outs.get(number), courses.get_mut(claim.joint)) {
+            course.take(by, claim, value.get());
+        }
     }
 }

@@ -188,6 +188,11 @@ impl<'a> Present<'a> {
         Ok(())
     }
 
+    /// No fallbacks are asked for of those whose updates failed before.
+    pub fn forget_erred(&mut self) {
+        self.erred.clear();
+    }
+
     /// Takes the controllers whose fallbacks are asked for now.
     pub fn take_erred(&mut self, alloc: Global) -> Vec<&'a CtlDesc> {
         mem::replace(&mut self.erred, Vec::new(alloc))
@@ -218,11 +223,9 @@ impl<'a> Present<'a> {
 
     /// Who is chained is worked out anew.
     pub fn link(&mut self) {
-        for chained in &mut self.chained {
-            *chained = false;
-        }
-        for (life, links) in self.lives.iter().zip(self.links) {
-            if *life == Some(Life::Active) {
+        self.chained.fill(false);
+        for (place, links) in self.links.iter().enumerate() {
+            if self.life_at(place) == Some(Life::Active) {
                 chain(&mut self.chained, links.claims.as_slice());
             }
         }

@@ -5,7 +5,7 @@
 ghost use Rattle.std.specs.Prelude.{◌≡◌};
 
 use crate::columns::Columns;
-use crate::course::{JointCourse, blank_courses, forget};
+use crate::course::{JointCourse, blank_courses, forget, reach, take_outs};
 use crate::groups::{groups_of, members_of};
 use crate::incidents::{Incident, push_incidents};
 use crate::limiters::{LimiterCourse, blank_limiters, stop_limiter};
@@ -16,7 +16,7 @@ use crate::rows::{ColumnState, Event, Row, blank_rows, mark_row};
 use cm_document::{Call, Pick, Script, SwitchRequest};
 use cm_model::{Decision, Dropped, Entry, Outcome, Reply, Why};
 use cm_storage::{CycleRecord, Done, FailedPart, RanRef};
-use fixed_num::{Memory, StoredValue};
+use fixed_num::Memory;
 use iface_names::Name;
 use std::alloc::Global;
 
@@ -366,11 +366,9 @@ impl<'a> Replay<'a> {
         let cycle = record.cycle();
         let column = self.columns.of_cycle(cycle);
         self.read_failures(record.failed(), column, cycle);
-        drop(self.present.take_erred(self.alloc));
+        self.present.forget_erred();
         self.read_updates(record, column)?;
-        for (course, body) in self.courses.iter_mut().zip(record.bodies()) {
-            course.reach(column, body.x.micro());
-        }
+        reach(&mut self.courses, record.bodies(), column);
         self.show(column);
         self.read_stops(record.stops(), column, cycle);
         self.present.fail(record.failed());
@@ -422,21 +420,10 @@ impl<'a> Replay<'a> {
         for limiter in &mut self.limiters {
             limiter.read(place, chained, column, ran.outs);
         }
-        self.take_outs(place, ran.outs);
-        Ok(())
-    }
-
-    /// What an update gave stands at the joints whose positions it commands.
-    fn take_outs(&mut self, place: usize, outs: &[StoredValue]) {
-        let all = self.present.links;
-        let Some(links) = all.get(place) else {
-            return;
-        };
-        for (claim, value) in links.claims.iter().zip(outs) {
-            if let Some(course) = self.courses.get_mut(claim.joint) {
-                course.take(place, claim, value.get());
-            }
+        if let Some(links) = self.present.links.get(place) {
+            take_outs(&mut self.courses, place, links.claims.as_slice(), ran.outs);
         }
+        Ok(())
     }
 
     /// What each controller and component was in this column.
@@ -472,8 +459,10 @@ fn show_controllers(rows: &mut Vec<Row>, present: &Present<'_>, column: usize) {
 
 /// What each component was in this column.
 fn show_components(rows: &mut Vec<Row>, present: &Present<'_>, column: usize) {
-    for (row, life) in rows.iter_mut().zip(&present.components) {
-        row.show(column, ColumnState::of(*life, false));
+    for (place, row) in rows.iter_mut().enumerate() {
+        if let Some(life) = present.components.get(place) {
+            row.show(column, ColumnState::of(*life, false));
+        }
     }
 }
 

@@ -26,7 +26,7 @@ use std::thread::{Threads, join_mut};
 pub fn live<R, P, L, C, G>(
     rt: &R,
     alloc: Global,
-    sessions: Vec<(Session, P)>,
+    sessions: Vec<(Session<'_>, P)>,
     looping: &mut L,
     cycles: u64,
     pace: &mut C,
@@ -40,7 +40,8 @@ where
     G: Gate,
     requires sessions { All (λ s. IsAtItsStart (P.tells s.1) s.0) sessions.items }
     requires looping { IsAtFirst cycles (L.tells looping.old) }
-    ensures ports { IfOk result (λ ports. AllZip (HasFollowed P.footing P.tells) sessions.items ports.items) }
+    ensures ports { IfOk result
+        (λ ports. AllZip (HasFollowed P.footing P.tells) sessions.entry.items ports.items) }
     ensures looping { MatchResult result
         (λ _. HasLooped L.LoopPort cycles looping.old looping.new)
         (λ _. HasStopped L.LoopPort cycles looping.old looping.new) }
@@ -57,7 +58,7 @@ where
 pub fn live_by<R, P, L, C, G, F>(
     rt: &R,
     alloc: Global,
-    mut sessions: Vec<(Session, P)>,
+    mut sessions: Vec<(Session<'_>, P)>,
     looping: &mut L,
     cycles: u64,
     pace: &mut C,
@@ -73,7 +74,8 @@ where
     F: Fn(&mut L, &mut L::Flight),
     requires sessions { All (λ s. IsAtItsStart (P.tells s.1) s.0) sessions.items }
     requires looping { MayLoop L.LoopPort F.Fn cycles looping.old compute.now }
-    ensures ports { IfOk result (λ ports. AllZip (HasFollowed P.footing P.tells) sessions.items ports.items) }
+    ensures ports { IfOk result
+        (λ ports. AllZip (HasFollowed P.footing P.tells) sessions.entry.items ports.items) }
     ensures looping { MatchResult result
         (λ _. HasLooped L.LoopPort cycles looping.old looping.new)
         (λ _. HasStopped L.LoopPort cycles looping.old looping.new) }
@@ -96,16 +98,16 @@ where
 }
 
 /// Whether all sessions have ended: one to which memory was refused has not.
-fn have_all_ended<P>(sessions: &[(Session, P)]) -> bool
+fn have_all_ended<P>(sessions: &[(Session<'_>, P)]) -> bool
     ensures { result ≡ true → All (λ s. is_none (next_of s.0) ≡ true) sessions.now }
 {
     sessions.iter().all(|pair| pair.0.ended())
 }
 
 /// The ports of all sessions, behind those that are there, in room that was reserved for them.
-fn ports_of<P: Drop>(sessions: Vec<(Session, P)>, mut ports: Vec<P>) -> Vec<P>
+fn ports_of<P: Drop>(sessions: Vec<(Session<'_>, P)>, mut ports: Vec<P>) -> Vec<P>
     requires room { vec_len ports + length sessions.items ≤ vec_capacity ports }
-    ensures { result.items ≡ ports.items ++ map (λ s. s.1) sessions.items }
+    ensures { result.items ≡ ports.items ++ map (λ s. s.1) sessions.entry.items }
 {
     for pair in sessions {
         let (_, port) = pair;
@@ -119,7 +121,7 @@ fn ports_of<P: Drop>(sessions: Vec<(Session, P)>, mut ports: Vec<P>) -> Vec<P>
 fn run_all<R, P, L, C, G, F>(
     rt: &R,
     gate: &G,
-    sessions: &mut [(Session, P)],
+    sessions: &mut [(Session<'_>, P)],
     looping: &mut L,
     cycles: u64,
     pace: &mut C,
@@ -156,7 +158,7 @@ where
 }
 
 /// All sessions, each on a thread of its own where one can be made.
-fn run_sessions<R, P, G>(rt: &R, gate: &G, sessions: &mut [(Session, P)])
+fn run_sessions<R, P, G>(rt: &R, gate: &G, sessions: &mut [(Session<'_>, P)])
 where
     R: Threads + Wait + Sync,
     P: Port + Send + Drop,
@@ -172,7 +174,7 @@ where
         rt,
         sessions,
         count,
-        &|_: usize, pair: &mut (Session, P)|
+        &|_: usize, pair: &mut (Session<'_>, P)|
             requires { IsAtItsStart (P.tells pair.now.1) pair.now.0 }
             ensures { HasRunLive P.footing P.tells pair.entry.now pair.exit.now }
         { run_session(rt, gate, pair) },

@@ -11,7 +11,7 @@ use std::thread;
 
 /// The session advances over its console until it has ended, or memory runs out.
 #[tactic(auto, using(crate::proofs::SessionLemmas::start_goes_on, crate::proofs::SessionLemmas::gone_has_run))]
-pub fn run_session<R: Wait, P: Port, G: Gate>(rt: &R, gate: &G, pair: &mut (Session, P))
+pub fn run_session<R: Wait, P: Port, G: Gate>(rt: &R, gate: &G, pair: &mut (Session<'_>, P))
     requires { IsAtItsStart (P.tells pair.old.1) pair.old.0 }
     ensures { HasRunLive P.footing P.tells pair.old pair.new }
 {
@@ -24,7 +24,7 @@ pub fn run_session<R: Wait, P: Port, G: Gate>(rt: &R, gate: &G, pair: &mut (Sess
 }
 
 /// One advance: whether the session goes on.
-fn goes_on<P: Port, G: Gate>(gate: &G, pair: &mut (Session, P)) -> bool
+fn goes_on<P: Port, G: Gate>(gate: &G, pair: &mut (Session<'_>, P)) -> bool
     ensures { KeepsOn P.footing P.tells pair.old pair.new }
 {
     match advance(gate, pair) {
@@ -38,7 +38,7 @@ fn goes_on<P: Port, G: Gate>(gate: &G, pair: &mut (Session, P)) -> bool
 }
 
 /// One advance. The gate is told of a line before it is tried, and as soon as it has its answer.
-fn advance<P: Port, G: Gate>(gate: &G, pair: &mut (Session, P)) -> Result<Progress, Memory>
+fn advance<P: Port, G: Gate>(gate: &G, pair: &mut (Session<'_>, P)) -> Result<Progress, Memory>
     ensures { KeepsOn P.footing P.tells pair.old pair.new }
 {
     if pair.0.ticket().is_some() || pair.0.ended() {
@@ -56,7 +56,7 @@ fn advance<P: Port, G: Gate>(gate: &G, pair: &mut (Session, P)) -> Result<Progre
 
 /// The advance itself.
 #[tactic(auto, using(crate::proofs::SessionLemmas::advance_keeps_on))]
-fn step<P: Port>(pair: &mut (Session, P)) -> Result<Progress, Memory>
+fn step<P: Port>(pair: &mut (Session<'_>, P)) -> Result<Progress, Memory>
     ensures { KeepsOn P.footing P.tells pair.old pair.new }
 {
     pair.0.advance(&mut pair.1)

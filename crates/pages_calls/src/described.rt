@@ -6,8 +6,8 @@ use desc_text::read_description;
 use std::alloc::Global;
 use std::test::Fail;
 
-/// The description of a text.
-pub fn described(alloc: Global, text: &str) -> Result<Checked, Fail> {
+/// The description that a text has, read and checked.
+pub fn checked_description(alloc: Global, text: &str) -> Result<Checked, Fail> {
     let description = read_description(alloc, text.as_bytes())?;
     Ok(check(alloc, description)?)
 }

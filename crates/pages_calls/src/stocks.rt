@@ -12,8 +12,8 @@ use std::test::Fail;
 /// The most controllers of a stock here.
 const MOST_CONTROLLERS: usize = 1_000;
 
-/// So many of each kind, all of them blank.
-pub fn blanks(alloc: Global, each: u32) -> Result<Vec<AnyKind>, Fail>
+/// So many blanks of each kind. It fails if the stock becomes larger than the most here.
+pub fn few_blanks(alloc: Global, each: u32) -> Result<Vec<AnyKind>, Fail>
     ensures blank { IfOk result (λ blanks. All (λ b. IsBlank (⟦<AnyKind as Controller>⟧.meaning b)) blanks.items) }
     ensures few { IfOk result (λ blanks. length blanks.items < 2 ^ 32) }
 {

@@ -5,7 +5,7 @@ use cm_desk::Book;
 use cm_model::Entry;
 use cm_top::Status;
 use ctl_trait::Controller;
-use pages_calls::stocks::blanks;
+use pages_calls::stocks::few_blanks;
 use std::alloc::Global;
 use std::test::Fail;
 
@@ -56,7 +56,7 @@ fn push_unready<C: Controller>(told: &mut String, ctl: &C, cycle: u64) -> Result
 pub fn history_of(alloc: Global, text: &str, in_stock: u32) -> Result<Vec<Entry>, Fail> {
     let mut source = OF_PROGRAM.source(alloc, text)?;
     let mut sink = ample_sink(alloc)?;
-    let blanks = blanks(alloc, in_stock)?;
+    let blanks = few_blanks(alloc, in_stock)?;
     let (status, book) = run_over(alloc, &mut source, &mut sink, blanks);
     drop(status);
     match book {

@@ -10,7 +10,7 @@ use cm_top::{Status, run_alone};
 use cm_words::{Job, JobKind};
 use ctl_trait::Controller;
 use outside_io::{MemSink, MemSource, Sink};
-use pages_calls::stocks::blanks;
+use pages_calls::stocks::few_blanks;
 use pages_cases::pages::{Teller, joined};
 use std::alloc::Global;
 use std::str;
@@ -71,7 +71,7 @@ impl Runs {
             return Err(Fail::new("a live run"));
         }
         let mut source = self.source(alloc, text)?;
-        let blanks = blanks(alloc, self.in_stock)?;
+        let blanks = few_blanks(alloc, self.in_stock)?;
         let (status, book) = run_by(self.kind, alloc, &mut source, sink, blanks);
         drop(book);
         Ok(status)

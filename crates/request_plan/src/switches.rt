@@ -133,11 +133,15 @@ fn of_serials(alloc: Global, loaded: &[Seen], serials: &[u32]) -> Result<Vec<Mem
     Ok(list)
 }
 
-/// Whether a serial is one of these.
+/// Whether a serial is one of these. All are compared, because without a way out of the loop several are at once.
 fn is_listed(serials: &[u32], serial: u32) -> bool
     ensures { result ≡ is_listed serials.now serial }
 {
-    serials.iter().any(|other| *other == serial)
+    let mut listed = false;
+    for other in serials {
+        listed |= *other == serial;
+    }
+    listed
 }
 
 /// The controllers that are chained in a set, where each is linked to those that precede it.

@@ -6,7 +6,7 @@ use std::sync::atomic::{AtomicBool, AtomicU64};
 
 /// How far the loop of a case is, and what its sessions have made, loaded and asked.
 #[derive(Drop)]
-pub struct Board {
+pub(crate) struct Board {
     ended: AtomicU64,
     is_closed: AtomicBool,
     /// So many entries all sessions have made.

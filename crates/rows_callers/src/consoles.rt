@@ -14,7 +14,7 @@ use std::alloc::Global;
 /// and a move of a component are given a ticket, which the next begin decides, or the close. Every other call is done.
 /// It tells nothing of the history behind it.
 #[derive(Drop)]
-pub struct Console<'a> {
+pub(crate) struct Console<'a> {
     alloc: Global,
     board: &'a Board,
     who: u32,
@@ -150,7 +150,7 @@ impl<'a> Port for Console<'a> {
 
 /// The loop's console, of which a begin may be refused memory.
 #[derive(Drop)]
-pub struct LoopEnd<'a> {
+pub(crate) struct LoopEnd<'a> {
     pub board: &'a Board,
     pub ended: u64,
     pub left: u64,
@@ -163,7 +163,7 @@ pub struct LoopEnd<'a> {
 
 /// A cycle that is out.
 #[derive(Drop)]
-pub struct Flight {
+pub(crate) struct Flight {
     cycle: u64,
     is_computed: bool,
 }

@@ -34,7 +34,7 @@ impl Hold {
 
 /// A gate of holds, which notes where one ran out.
 #[derive(Drop)]
-pub struct Holds {
+pub(crate) struct Holds {
     all: Vec<Hold>,
     has_run_out: AtomicBool,
 }
@@ -107,7 +107,7 @@ fn point_of(text: &str) -> Result<Point, Fail> {
 
 /// Counts how often it was called, and whether in order of cycles.
 #[derive(Drop)]
-pub struct Counted {
+pub(crate) struct Counted {
     pub pauses: u64,
     pub in_order: bool,
 }

@@ -10,10 +10,10 @@ use std::alloc::Global;
 use std::test::Fail;
 
 /// The most lines of a session here.
-pub const MOST_LINES: usize = 10_000;
+pub(crate) const MOST_LINES: usize = 10_000;
 
 /// The lines of a session.
-pub fn lines_of(alloc: Global, text: &str) -> Result<Seq<Call>, Fail>
+pub(crate) fn lines_of(alloc: Global, text: &str) -> Result<Seq<Call>, Fail>
     ensures { IfOk result (λ lines. AreLines lines) }
 {
     let mut lines = Seq::new(alloc);

@@ -17,6 +17,7 @@ use pages_calls::replies::push_reply;
 use pages_cases::pages::{halves, hold_told};
 use pages_cases::words::word;
 use std::alloc::Global;
+use std::marker::Model;
 use std::sync::Wait;
 use std::test::Fail;
 use std::thread::Threads;
@@ -68,7 +69,8 @@ fn told_of_run<R: Threads + Wait + Sync>(
     let cycles = number(head, 0)?;
     let board = Board::new();
     let looping = LoopEnd::new(&board, cycles, number(head, 2)?);
-    let sessions = sessions_of(alloc, &board, sessions)?;
+    let written = written_of(alloc, sessions)?;
+    let sessions = sessions_of(alloc, &board, written.as_slice())?;
     told_of(rt, alloc, sessions, looping, cycles, &gate)
 }
 
@@ -76,7 +78,7 @@ fn told_of_run<R: Threads + Wait + Sync>(
 fn told_of<'b, R: Threads + Wait + Sync>(
     rt: &R,
     alloc: Global,
-    sessions: Vec<(Session, Console<'b>)>,
+    sessions: Vec<(Session<'_>, Console<'b>)>,
     mut looping: LoopEnd<'b>,
     cycles: u64,
     gate: &Holds,
@@ -141,31 +143,70 @@ fn number(line: &str, place: usize) -> Result<u64, Fail> {
     Ok(word(line, place).parse()?)
 }
 
-/// The sessions of a case, each with its console. A session begins with a line `session NAME ENTRIES`, and its lines
-/// follow.
-fn sessions_of<'b>(
-    alloc: Global,
-    board: &'b Board,
-    text: &str,
-) -> Result<Vec<(Session, Console<'b>)>, Fail>
-    ensures { IfOk result
-        (λ all. All (λ s. IsFresh s.0 s.1.who s.1.made.items s.1.waited) all.items) }
-{
+/// A session as a case writes it.
+#[derive(Drop)]
+struct Written {
+    text: SessionText,
+    /// For so many entries its console has memory.
+    room: usize,
+}
+
+impl Model for Written {
+    ghost use Rattle.cm_document.specs.declared.script.SessionText.{SessionText};
+    ghost use Rattle.console_session.specs.Sessions.{AreLines};
+
+    ghost Value = { SessionText };
+
+    ghost view = { λ w. w.text };
+
+    ghost invariant = { λ w. AreLines w.text.lines };
+}
+
+/// The sessions that a case writes. Each begins with a line `session NAME ENTRIES`, and its lines follow.
+fn written_of(alloc: Global, text: &str) -> Result<Vec<Written>, Fail> {
     let mut all = Vec::new(alloc);
     for part in text.split("session ") {
         if !part.is_empty() {
-            add_session(alloc, board, part, &mut all)?;
+            all.push(written_as(alloc, part)?)?;
         }
     }
     Ok(all)
 }
 
-/// A session more, behind the others.
-fn add_session<'b>(
+/// A session of these lines, of which the first has its name and for how many entries its console has memory.
+fn written_as(alloc: Global, text: &str) -> Result<Written, Fail> {
+    let (head, rest) = halves(text, "\n")?;
+    Ok(Written {
+        text: SessionText {
+            name: name_of(alloc, word(head, 0))?,
+            lines: lines_of(alloc, rest)?,
+        },
+        room: number(head, 1)? as usize,
+    })
+}
+
+/// The sessions of a case, each with its console.
+fn sessions_of<'a, 'b>(
     alloc: Global,
     board: &'b Board,
-    text: &str,
-    all: &mut Vec<(Session, Console<'b>)>,
+    written: &'a [Written],
+) -> Result<Vec<(Session<'a>, Console<'b>)>, Fail>
+    ensures { IfOk result
+        (λ all. All (λ s. IsFresh s.0 s.1.who s.1.made.items s.1.waited) all.items) }
+{
+    let mut all = Vec::new(alloc);
+    for session in written {
+        add_session(alloc, board, session, &mut all)?;
+    }
+    Ok(all)
+}
+
+/// A session more, behind the others.
+fn add_session<'a, 'b>(
+    alloc: Global,
+    board: &'b Board,
+    written: &'a Written,
+    all: &mut Vec<(Session<'a>, Console<'b>)>,
 ) -> Result<(), Fail>
     requires { All (λ s. IsFresh s.0 s.1.who s.1.made.items s.1.waited) all.old.items }
     ensures { OnOk result (All (λ s. IsFresh s.0 s.1.who s.1.made.items s.1.waited) all.new.items) }
@@ -173,29 +214,23 @@ fn add_session<'b>(
     let Ok(who) = u32::try_from(all.len()) else {
         return Err(Fail::new("too many sessions"));
     };
-    all.push(session_of(alloc, board, who, text)?)?;
+    all.push(session_of(alloc, board, who, written))?;
     Ok(())
 }
 
-/// A session of these lines, of which the first has its name and for how many entries its console has memory.
-fn session_of<'b>(
+/// A session before its first line, with its console.
+fn session_of<'a, 'b>(
     alloc: Global,
     board: &'b Board,
     who: u32,
-    text: &str,
-) -> Result<(Session, Console<'b>), Fail>
-    ensures { IfOk result (λ pair. IsFresh pair.0 pair.1.who pair.1.made.items pair.1.waited) }
+    written: &'a Written,
+) -> (Session<'a>, Console<'b>)
+    ensures { IsFresh result.0 result.1.who result.1.made.items result.1.waited }
 {
-    let (head, rest) = halves(text, "\n")?;
-    let room = number(head, 1)? as usize;
-    let text = SessionText {
-        name: name_of(alloc, word(head, 0))?,
-        lines: lines_of(alloc, rest)?,
-    };
-    Ok((
-        Session::make(who, text),
-        Console::new(alloc, board, who, room),
-    ))
+    (
+        Session::make(who, &written.text),
+        Console::new(alloc, board, who, written.room),
+    )
 }
 
 /// Runs that one thread can't make, in any order, without a hold that runs out. In the first the session waits until

@@ -1,7 +1,8 @@
 //! A session over a small console, advance by advance.
 
-ghost use Rattle.std.specs.Prelude.{◌≡◌, ◌++◌, ◌∷◌, [], OnOk, OnErr};
+ghost use Rattle.std.specs.Prelude.{◌≡◌, ◌++◌, ◌∷◌, [], IfOk, OnOk, OnErr};
 ghost use Rattle.cm_document.specs.declared.call.Call.TheVariants as call;
+ghost use Rattle.console_session.specs.Sessions.{AreLines};
 
 use crate::lines::{MOST_LINES, lines_of};
 use cm_document::{Call, SessionText};
@@ -11,15 +12,18 @@ use console_session::{Progress, Session};
 use fixed_num::Memory;
 use pages_calls::calls::name_of;
 use pages_calls::replies::push_reply;
-use pages_cases::acts::{Player, hold_acts};
-use pages_cases::pages::joined;
+use pages_cases::pages::{expanded, halves, hold_told};
 use sequence::{Boxed, SharedList};
 use std::alloc::Global;
 use std::test::Fail;
 
 #[test]
 fn a_session_makes_its_lines_and_is_told(rt: HostRuntime) -> Result<(), Fail> {
-    hold_acts::<Operator>(rt.alloc(), "", SESSIONS)
+    let alloc = rt.alloc();
+    for case in SESSIONS.split("\n\n") {
+        hold_case(alloc, case)?;
+    }
+    Ok(())
 }
 
 // ---- A console
@@ -155,36 +159,63 @@ impl Port for Console {
 
 /// A session over its console.
 #[derive(Drop)]
-struct Operator {
-    session: Session,
+struct Operator<'a> {
+    session: Session<'a>,
     console: Console,
 }
 
-impl Player for Operator {
-    fn begin(alloc: Global, before: &str, head: &str) -> Result<Operator, Fail> {
-        let text = SessionText {
-            name: name_of(alloc, "a")?,
-            lines: lines_of(alloc, joined(alloc, before, head)?.as_str())?,
-        };
-        Ok(Operator {
-            session: Session::make(0, text),
-            console: new_console(alloc),
-        })
+/// Fails at the first act of a case of which something else is told than it says. The session borrows its lines, which
+/// stand before the acts.
+fn hold_case(alloc: Global, case: &str) -> Result<(), Fail> {
+    let case = expanded(alloc, case)?;
+    let text = text_of(alloc, case.as_str())?;
+    let mut operator = Operator {
+        session: Session::make(0, &text),
+        console: new_console(alloc),
+    };
+    for line in case.as_str().lines() {
+        hold_act(alloc, &mut operator, line)?;
     }
+    Ok(())
+}
 
-    fn told(&mut self, alloc: Global, act: &str) -> Result<String, Fail> {
-        let mut told = String::new(alloc);
-        match act {
-            "decide" => self.console.decided = self.console.decided.saturating_add(1),
-            "cycle" => self.console.ended = self.console.ended.saturating_add(1),
-            "no memory" => self.console.is_out = true,
-            "memory" => self.console.is_out = false,
-            "to the end" => push_rest(&mut told, self)?,
-            _ => push_advance(&mut told, self)?,
-        }
-        push_standing(&mut told, &self.session)?;
-        Ok(told)
+/// The lines of a case that are no acts.
+fn text_of(alloc: Global, case: &str) -> Result<SessionText, Fail>
+    ensures { IfOk result (λ text. AreLines text.lines) }
+{
+    let (before, _) = halves(case, " => ")?;
+    let Some((lines, _)) = before.rsplit_once("\n") else {
+        return Err(Fail::new("a case without lines"));
+    };
+    Ok(SessionText {
+        name: name_of(alloc, "a")?,
+        lines: lines_of(alloc, lines)?,
+    })
+}
+
+/// Fails where something else is told of an act than its line says.
+fn hold_act(alloc: Global, operator: &mut Operator<'_>, line: &str) -> Result<(), Fail> {
+    let Some((act, want)) = line.split_once(" => ") else {
+        return Ok(());
+    };
+    let told = told_of(alloc, operator, act)?;
+    hold_told(alloc, act, told.as_str(), want)
+}
+
+/// Does an act, and tells what came of it.
+fn told_of(alloc: Global, operator: &mut Operator<'_>, act: &str) -> Result<String, Fail> {
+    let console = &mut operator.console;
+    let mut told = String::new(alloc);
+    match act {
+        "decide" => console.decided = console.decided.saturating_add(1),
+        "cycle" => console.ended = console.ended.saturating_add(1),
+        "no memory" => console.is_out = true,
+        "memory" => console.is_out = false,
+        "to the end" => push_rest(&mut told, operator)?,
+        _ => push_advance(&mut told, operator)?,
     }
+    push_standing(&mut told, &operator.session)?;
+    Ok(told)
 }
 
 fn new_console(alloc: Global) -> Console {
@@ -201,7 +232,7 @@ fn new_console(alloc: Global) -> Console {
 }
 
 /// Advances, and appends what that came to.
-fn push_advance(told: &mut String, operator: &mut Operator) -> Result<(), Fail> {
+fn push_advance(told: &mut String, operator: &mut Operator<'_>) -> Result<(), Fail> {
     match operator.session.advance(&mut operator.console) {
         Ok(Progress::Ran) => push_last(told, operator.console.made.as_slice())?,
         Ok(Progress::Waits) => told.push_str("waits")?,
@@ -220,7 +251,7 @@ fn push_last(told: &mut String, made: &[Entry]) -> Result<(), Fail> {
 }
 
 /// Advances as often as a session can make entries, one time more, and appends how many it made.
-fn push_rest(told: &mut String, operator: &mut Operator) -> Result<(), Fail> {
+fn push_rest(told: &mut String, operator: &mut Operator<'_>) -> Result<(), Fail> {
     let mut made: u32 = 0;
     for _ in 0..2 * MOST_LINES + 1 {
         if let Ok(Progress::Ran) = operator.session.advance(&mut operator.console) {
@@ -232,7 +263,7 @@ fn push_rest(told: &mut String, operator: &mut Operator) -> Result<(), Fail> {
 }
 
 /// Appends where a session stands.
-fn push_standing(told: &mut String, session: &Session) -> Result<(), Fail> {
+fn push_standing(told: &mut String, session: &Session<'_>) -> Result<(), Fail> {
     write!(told, "at {}", session.line())?;
     if let Some(ticket) = session.ticket() {
         write!(told, ", of {ticket}")?;

@@ -29,10 +29,10 @@ use Rattle.shared_desk.specs.Calls.Looping.{BeginsThere, LandsThere, ClosesThere
 use Rattle.shared_desk.specs.Passes.{history_of, IsLoopPass}
 use Rattle.shared_desk.specs.Turns.{TakesTurn, Stays}
 use Rattle.rows_desk.specs.Shared.{StandsSo, IsLoopOf}
-use Rattle.rows_desk.specs.declared.shared.stand.Stand.{Stand}
+use Rattle.rows_desk.specs.declared.shared.stand.LoopStand.{LoopStand}
 
 -- where the loop stands alike it stands so too
-pub stands_so : (s t : State) (stand : Stand) → SameLoop s t → StandsSo s stand → StandsSo t stand
+pub stands_so : (s t : State) (stand : LoopStand) → SameLoop s t → StandsSo s stand → StandsSo t stand
 stands_so s t stand same so = record {
   left = so.left
       ∙ ap₂ (λ (a b : ℕ). a - b) (ap (λ (d : Description). d.cycles) (sym same.description)) (sym same.ended);
@@ -102,14 +102,14 @@ closed_so old new who r left aloft closed grows so =
 -- ---- When
 
 -- a cycle can begin where none is aloft, the loop is open and cycles are left
-pub begins_so : (now : State) (stand : Stand) → StandsSo now stand → stand.aloft ≡ false → stand.closed ≡ false
+pub begins_so : (now : State) (stand : LoopStand) → StandsSo now stand → stand.aloft ≡ false → stand.closed ≡ false
     → stand.left ≢ 0 → can_begin now now.ended ≡ true
 begins_so now stand so home unclosed some =
     begins_where now.aloft now.closed now.ended now.description.cycles (sym so.aloft ∙ home) (sym so.closed ∙ unclosed)
     (omega (arith, so.left, some))
 
 -- and the loop can close where none is aloft and it is open
-pub closes_so : (now : State) (stand : Stand) → StandsSo now stand → stand.aloft ≡ false → stand.closed ≡ false
+pub closes_so : (now : State) (stand : LoopStand) → StandsSo now stand → stand.aloft ≡ false → stand.closed ≡ false
     → can_close now ≡ true
 closes_so now stand so home unclosed =
     closes_where now.aloft now.closed (sym so.aloft ∙ home) (sym so.closed ∙ unclosed)
@@ -137,7 +137,7 @@ module _ {K : Type 0} {g : Ghosts K Entry State} (lock : TurnLock K Entry State)
   still_loop p q found is turn = record { at = turn.still; loop = turn.number ∙ is.loop }
 
   -- where no entry is made the loop stands as it stood
-  pub stays_loop : (p q : TurnPass K Entry State g) (stand : Stand) (flight : Option FlightFacts)
+  pub stays_loop : (p q : TurnPass K Entry State g) (stand : LoopStand) (flight : Option FlightFacts)
       → IsLoopOf lock first p stand flight → stand.aloft ≡ false → Stays lock first p q
       → IsLoopOf lock first q stand flight
   stays_loop p q stand flight is home stays =
@@ -159,9 +159,10 @@ module _ {K : Type 0} {g : Ghosts K Entry State} (lock : TurnLock K Entry State)
         at_hand = not_at_hand (IsAtHand (history_of first.opening q)) flight (is.home home);
       }
 
-  pub begins_loop : (p q : TurnPass K Entry State g) (stand : Stand) (flight now : Option FlightFacts) (f : FlightFacts)
-      → IsLoopOf lock first p stand flight → BeginsThere lock first p q → IsOut (history_of first.opening q) f
-      → now ≡ Some f → IsLoopOf lock first q (record { left = stand.left; aloft = true; closed = stand.closed }) now
+  pub begins_loop : (p q : TurnPass K Entry State g) (stand : LoopStand) (flight now : Option FlightFacts)
+      (f : FlightFacts) → IsLoopOf lock first p stand flight → BeginsThere lock first p q
+      → IsOut (history_of first.opening q) f → now ≡ Some f
+      → IsLoopOf lock first q (record { left = stand.left; aloft = true; closed = stand.closed }) now
   begins_loop p q stand flight now f is begins flies now_is =
       let same = begins.stands.loop in
       record {
@@ -178,8 +179,8 @@ module _ {K : Type 0} {g : Ghosts K Entry State} (lock : TurnLock K Entry State)
       }
 
   -- the flight that was out is computed
-  pub computes_loop : (p : TurnPass K Entry State g) (stand : Stand) (flight : Option FlightFacts) (f g : FlightFacts)
-      → IsLoopOf lock first p stand flight → flight ≡ Some f → f.outcome ≡ None
+  pub computes_loop : (p : TurnPass K Entry State g) (stand : LoopStand) (flight : Option FlightFacts)
+      (f g : FlightFacts) → IsLoopOf lock first p stand flight → flight ≡ Some f → f.outcome ≡ None
       → ((s : State) → IsAloft s f → IsComputed s g) → is_some g.outcome ≡ true
       → IsLoopOf lock first p stand (Some g)
   computes_loop p stand flight f g is same none made some =
@@ -191,7 +192,7 @@ module _ {K : Type 0} {g : Ghosts K Entry State} (lock : TurnLock K Entry State)
         at_hand = computed_at_hand (history_of first.opening p) f g (at.before none) made some;
       }
 
-  pub lands_loop : (p q : TurnPass K Entry State g) (stand : Stand) (flight : Option FlightFacts) (left : ℕ)
+  pub lands_loop : (p q : TurnPass K Entry State g) (stand : LoopStand) (flight : Option FlightFacts) (left : ℕ)
       (gone : Option FlightFacts) → IsLoopOf lock first p stand flight
       → LandsThere lock first p q → left ≡ stand.left - 1 → gone ≡ None
       → IsLoopOf lock first q (record { left = left; aloft = false; closed = stand.closed }) gone
@@ -211,7 +212,7 @@ module _ {K : Type 0} {g : Ghosts K Entry State} (lock : TurnLock K Entry State)
         at_hand = not_at_hand (IsAtHand (history_of first.opening q)) gone none;
       }
 
-  pub closes_loop : (p q : TurnPass K Entry State g) (stand : Stand) (flight : Option FlightFacts)
+  pub closes_loop : (p q : TurnPass K Entry State g) (stand : LoopStand) (flight : Option FlightFacts)
       → IsLoopOf lock first p stand flight → stand.aloft ≡ false → ClosesThere lock first p q
       → IsLoopOf lock first q (record { left = stand.left; aloft = stand.aloft; closed = true }) flight
   closes_loop p q stand flight is home closes = record {

@@ -5,7 +5,7 @@ use Rattle.std.proofs.Common.{◌++◌, map, length, get_or, All, Contains, Opti
 use Rattle.std.proofs.Common.{refl, sym, ap, subst, ◌∙◌, ◌⊎◌, inl, inr, ⊎_elim, arith}
 use Rattle.std.specs.Prelude.{MatchOption}
 use Rattle.std.proofs.lemmas.List.{get_or-map, length-map}
-use Rattle.std.proofs.lemmas.List.Elements.{All-cons, All-tail, All-contains}
+use Rattle.std.proofs.lemmas.List.Elements.{All-cons, All-tail}
 use Rattle.cm_document.specs.declared.call.Call.{Call}
 use Rattle.cm_document.specs.declared.description.Description.{Description}
 use Rattle.cm_desk.specs.Desk.{History, IsAtHand, now_of}
@@ -32,8 +32,8 @@ use Rattle.shared_desk.specs.Calls.Share.{Shares}
 use Rattle.shared_desk.specs.Passes.{history_of, IsSessionPass, IsLoopPass}
 use Rattle.shared_desk.specs.Turns.{TakesTurn, Stays}
 use Rattle.rows_desk.proofs.LoopPassLemmas.{not_at_hand}
-use Rattle.rows_desk.specs.Shared.{StandsSo, IsLoopOf, AreSessions}
-use Rattle.rows_desk.specs.declared.shared.stand.Stand.{Stand}
+use Rattle.rows_desk.specs.Shared.{StandsSo, IsLoopOf}
+use Rattle.rows_desk.specs.declared.shared.stand.LoopStand.{LoopStand}
 
 -- the last of all
 last_is : {X : Type 0} (P : X → Type 0) (xs : List X) (x : X) → All P (xs ++ x ∷ []) → P x
@@ -86,13 +86,6 @@ module _ {K : Type 0} {g : Ghosts K Entry State} (lock : TurnLock K Entry State)
 
   -- ---- A desk is shared
 
-  -- each of its passes but the loop's is that of a session,
-  pub is_session : (desk : History) (looping : TurnPass K Entry State g) (passes : List (TurnPass K Entry State g))
-      (p : TurnPass K Entry State g)
-      → Shares desk lock first looping passes → Contains passes p → IsSessionPass lock first p
-  is_session desk looping passes p shares there =
-      All-contains (IsSessionPass lock first) passes p shares.passes_are there
-
   -- there are as many sessions as it was booted with,
   pub session_count : (d : Description) (blanks : Blanks) (sessions : ℕ) (desk : History)
       (looping : TurnPass K Entry State g) (passes : List (TurnPass K Entry State g))
@@ -100,17 +93,6 @@ module _ {K : Type 0} {g : Ghosts K Entry State} (lock : TurnLock K Entry State)
       → first.opening.sessions ≡ sessions
   session_count d blanks sessions desk looping passes booted shares =
       ap (λ (h : History). h.opening.sessions) (shares.first_is ∙ booted)
-
-  -- two passes are those of two sessions,
-  pub two_sessions : (d : Description) (blanks : Blanks) (desk : History) (looping : TurnPass K Entry State g)
-      (passes : List (TurnPass K Entry State g)) (one other : TurnPass K Entry State g)
-      → desk ≡ record { opening = boot d blanks 2; made = [] } → Shares desk lock first looping passes
-      → Contains passes one × Contains passes other → AreSessions lock first one other
-  two_sessions d blanks desk looping passes one other booted shares are = record {
-    two = session_count d blanks 2 desk looping passes booted shares;
-    one_is = is_session desk looping passes one shares are.0;
-    other_is = is_session desk looping passes other shares are.1;
-  }
 
   stands_at_boot : (d : Description) (blanks : Blanks) (sessions : ℕ) (desk : History)
       (looping : TurnPass K Entry State g) (passes : List (TurnPass K Entry State g))
@@ -129,7 +111,7 @@ module _ {K : Type 0} {g : Ghosts K Entry State} (lock : TurnLock K Entry State)
   pub loop_at_boot : (d : Description) (blanks : Blanks) (sessions : ℕ) (desk : History)
       (looping : TurnPass K Entry State g) (passes : List (TurnPass K Entry State g))
       → desk ≡ record { opening = boot d blanks sessions; made = [] } → Shares desk lock first looping passes
-      → (p : TurnPass K Entry State g) (stand : Stand) (flight : Option FlightFacts) → p ≡ looping
+      → (p : TurnPass K Entry State g) (stand : LoopStand) (flight : Option FlightFacts) → p ≡ looping
       → stand ≡ record { left = d.cycles; aloft = false; closed = false } → flight ≡ None
       → IsLoopOf lock first p stand flight
   loop_at_boot d blanks sessions desk looping passes booted shares p stand flight same so none =
@@ -137,21 +119,13 @@ module _ {K : Type 0} {g : Ghosts K Entry State} (lock : TurnLock K Entry State)
         looping = subst (λ (q : TurnPass K Entry State g). IsLoopPass lock first q) (sym same) shares.looping_is;
         stands =
             subst (λ (q : TurnPass K Entry State g). StandsSo (stand_of first q) stand) (sym same)
-            (subst (λ (st : Stand). StandsSo (stand_of first looping) st) (sym so)
+            (subst (λ (st : LoopStand). StandsSo (stand_of first looping) st) (sym so)
             (stands_at_boot d blanks sessions desk looping passes booted shares));
         home = λ home. none;
         at_hand = not_at_hand (IsAtHand (history_of first.opening p)) flight none;
       }
 
   -- ---- It comes home
-
-  -- two passes in a row
-  pub in_a_row : (one other : TurnPass K Entry State g) (row : List (TurnPass K Entry State g)) → row ≡ one ∷ other ∷ []
-      → AreSessions lock first one other → All (IsSessionPass lock first) row
-  in_a_row one other row is are =
-      subst (λ (ps : List (TurnPass K Entry State g)). All (IsSessionPass lock first) ps) (sym is)
-      (All-cons (IsSessionPass lock first) one (other ∷ []) are.one_is
-      (All-cons (IsSessionPass lock first) other [] are.other_is (λ k d low. absurd (omega (arith, low)))))
 
   numbered : (passes : List (TurnPass K Entry State g)) (p : TurnPass K Entry State g) (n : ℕ) → n < length passes
       → ((k : ℕ) (d : TurnPass K Entry State g) → k < length passes → (get_or passes k d).number ≡ k)
@@ -176,7 +150,7 @@ module _ {K : Type 0} {g : Ghosts K Entry State} (lock : TurnLock K Entry State)
   }
 
   -- the pass of a loop that has closed, with those of all sessions in order, are all
-  pub are_handed_in : (p : TurnPass K Entry State g) (stand : Stand) (flight : Option FlightFacts)
+  pub are_handed_in : (p : TurnPass K Entry State g) (stand : LoopStand) (flight : Option FlightFacts)
       (passes shown : List (TurnPass K Entry State g)) (count : ℕ)
       → seats_of lock ≡ first.opening.sessions + 1 → first.opening.sessions ≡ count
       → IsLoopOf lock first p stand flight → stand.closed ≡ true → All (IsSessionPass lock first) passes

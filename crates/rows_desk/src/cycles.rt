@@ -13,10 +13,10 @@ use cm_model::LoopPort;
 use cm_stock::Stock;
 use ctl_trait::Controller;
 use pages_calls::calls::call_of;
-use pages_calls::described::described;
+use pages_calls::described::checked_description;
 use pages_calls::replies::push_reply;
 use pages_calls::robots::SEVEN;
-use pages_calls::stocks::blanks;
+use pages_calls::stocks::few_blanks;
 use pages_cases::pages::{halves, hold_told};
 use std::alloc::Global;
 use std::test::Fail;
@@ -30,8 +30,8 @@ fn the_loop_makes_its_cycles_through_its_console(rt: HostRuntime) -> Result<(), 
     let robot = SEVEN.replace(alloc, "cycles = 6", "cycles = 2")?;
     play(
         alloc,
-        described(alloc, robot.as_str())?,
-        blanks(alloc, 1)?,
+        checked_description(alloc, robot.as_str())?,
+        few_blanks(alloc, 1)?,
         TWO_CYCLES,
     )
 }

@@ -13,16 +13,16 @@ use cm_storage::CycleRecord;
 use ctl_trait::Controller;
 use fixed_num::BodyState;
 use pages_calls::calls::call_of;
-use pages_calls::described::described;
+use pages_calls::described::checked_description;
 use pages_calls::replies::{push_entry, push_record, push_reply};
-use pages_calls::stocks::blanks;
+use pages_calls::stocks::few_blanks;
 use pages_cases::pages::{halves, hold_told};
 use std::alloc::Global;
 use std::test::Fail;
 use std::thread::Threads;
 
 /// What is told where a call of the loop has not its condition, and is not made.
-pub const CANNOT: &str = "cannot";
+pub(crate) const CANNOT: &str = "cannot";
 
 /// The most blanks of a stock here.
 const MOST_BLANKS: usize = 100;
@@ -37,7 +37,7 @@ enum Heard {
 
 /// Fails at the first line of a page of which something else is told than it says. A case is a paragraph of lines
 /// `CALL => TOLD`, for a desk of so many sessions over this robot. A call that was refused memory is made again.
-pub fn hold_calls<R: Threads>(
+pub(crate) fn hold_calls<R: Threads>(
     rt: &R,
     alloc: Global,
     robot: &str,
@@ -57,11 +57,18 @@ fn hold_case<R: Threads>(
     sessions: u32,
     case: &str,
 ) -> Result<(), Fail> {
-    let blanks = with_marks(alloc, blanks(alloc, 1)?)?;
+    let blanks = with_marks(alloc, few_blanks(alloc, 1)?)?;
     if blanks.len() > MOST_BLANKS {
         return Err(Fail::new("a stock too large"));
     }
-    play(rt, alloc, described(alloc, robot)?, blanks, sessions, case)
+    play(
+        rt,
+        alloc,
+        checked_description(alloc, robot)?,
+        blanks,
+        sessions,
+        case,
+    )
 }
 
 /// The calls of a case, on a desk at boot, each with what is told of it.
@@ -102,12 +109,12 @@ fn hold_line<R: Threads, C: Controller + Send + 'static>(
 ) -> Result<(), Fail> {
     let (call, want) = halves(line, " => ")?;
     let mut told = String::new(alloc);
-    make_in_two(rt, alloc, table, call, &mut told)?;
+    make_until_answered(rt, alloc, table, call, &mut told)?;
     hold_told(alloc, call, told.as_str(), want)
 }
 
 /// Makes a call, once more if it was refused memory.
-fn make_in_two<R: Threads, C: Controller + Send + 'static>(
+fn make_until_answered<R: Threads, C: Controller + Send + 'static>(
     rt: &R,
     alloc: Global,
     table: &mut Table<Marked<C>>,
@@ -201,7 +208,7 @@ fn push_outcome_of<C: Controller>(
 }
 
 /// Appends the reply of the last entry, where the call of the loop was made.
-pub fn push_last(told: &mut String, made: bool, history: &[Entry]) -> Result<(), Fail> {
+pub(crate) fn push_last(told: &mut String, made: bool, history: &[Entry]) -> Result<(), Fail> {
     match history.last() {
         Some(entry) if made => push_reply(told, &entry.reply),
         _ => push_made(told, false),
@@ -209,7 +216,7 @@ pub fn push_last(told: &mut String, made: bool, history: &[Entry]) -> Result<(),
 }
 
 /// Appends whether a call of the loop was made.
-pub fn push_made(told: &mut String, made: bool) -> Result<(), Fail> {
+pub(crate) fn push_made(told: &mut String, made: bool) -> Result<(), Fail> {
     told.push_str(if made { "ok" } else { CANNOT })?;
     Ok(())
 }
@@ -217,7 +224,11 @@ pub fn push_made(told: &mut String, made: bool) -> Result<(), Fail> {
 // ---- The history
 
 /// Appends all entries, each end with where its joints are.
-pub fn push_history(alloc: Global, told: &mut String, history: &[Entry]) -> Result<(), Fail> {
+pub(crate) fn push_history(
+    alloc: Global,
+    told: &mut String,
+    history: &[Entry],
+) -> Result<(), Fail> {
     for entry in history {
         push_entry(alloc, told, entry)?;
         if let Reply::Cycle(record) = &entry.reply {
@@ -329,7 +340,7 @@ fn push_answer<C: Controller>(
 }
 
 /// Appends what became of a ticket.
-pub fn push_outcome(told: &mut String, outcome: Option<Outcome>) -> Result<(), Fail> {
+pub(crate) fn push_outcome(told: &mut String, outcome: Option<Outcome>) -> Result<(), Fail> {
     let pushed = match &outcome {
         Some(outcome) => write!(told, "{outcome}"),
         None => told.push_str("not yet"),
@@ -339,7 +350,7 @@ pub fn push_outcome(told: &mut String, outcome: Option<Outcome>) -> Result<(), F
 }
 
 /// Appends whether so many cycles have ended.
-pub fn push_reached(told: &mut String, reached: bool) -> Result<(), Fail> {
+pub(crate) fn push_reached(told: &mut String, reached: bool) -> Result<(), Fail> {
     told.push_str(if reached { "ok" } else { "not yet" })?;
     Ok(())
 }

@@ -15,7 +15,7 @@ use std::alloc::Global;
 
 /// The console of the loop over a desk of its own. Whoever begins a cycle has its flight until that lands.
 #[derive(Drop)]
-pub struct DeskLoop<C: Controller> {
+pub(crate) struct DeskLoop<C: Controller> {
     alloc: Global,
     desk: Desk<C>,
 }
@@ -104,7 +104,7 @@ impl<C: Controller> LoopPort for DeskLoop<C> {
 }
 
 /// Makes the next cycle, through any console of the loop.
-pub fn make_cycle<L: LoopPort>(port: &mut L) -> Result<(), Memory>
+pub(crate) fn make_cycle<L: LoopPort>(port: &mut L) -> Result<(), Memory>
     requires { CanBegin (L.tells port.old) }
     ensures made { OnOk result (MakesCycle (L.tells port.old) (L.tells port.new)) }
     ensures still { L.footing port.new ≡ L.footing port.old }
@@ -123,7 +123,7 @@ fn may_cross<T: Send + Drop>(value: T) -> T
 }
 
 /// A desk may cross threads where its boxes may.
-pub fn across<C: Controller + Send>(desk: Desk<C>) -> Desk<C>
+pub(crate) fn across<C: Controller + Send>(desk: Desk<C>) -> Desk<C>
     ensures { result ≡ desk }
 {
     may_cross(desk)

@@ -15,7 +15,7 @@ use std::test::Fail;
 
 /// A controller, with the number of claims that its parameters are for, where it is configured, and whether it runs.
 #[derive(Drop)]
-pub struct Marked<C: Controller> {
+pub(crate) struct Marked<C: Controller> {
     ctl: C,
     claims: Option<usize>,
     runs: bool,
@@ -105,7 +105,10 @@ impl<C: Controller> Controller for Marked<C> {
 }
 
 /// Blanks, marked.
-pub fn with_marks<C: Controller>(alloc: Global, mut blanks: Vec<C>) -> Result<Vec<Marked<C>>, Fail>
+pub(crate) fn with_marks<C: Controller>(
+    alloc: Global,
+    mut blanks: Vec<C>,
+) -> Result<Vec<Marked<C>>, Fail>
     requires { All (λ b. IsBlank (C.meaning b)) blanks.items }
     ensures { IfOk result (λ all. All IsBlank all.items) }
 {

@@ -14,3 +14,5 @@ mod passes;
 mod sessions;
 /// Specs name it, so it stands beside the tests.
 pub mod stand;
+#[cfg(test)]
+mod starts;

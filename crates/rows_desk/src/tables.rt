@@ -20,7 +20,7 @@ use std::thread::Threads;
 
 /// A desk, and the flight that it handed out. Each call of the loop says whether it could be made.
 #[derive(Drop)]
-pub struct Table<C: Controller> {
+pub(crate) struct Table<C: Controller> {
     desk: Desk<C>,
     flight: Option<Flight<C>>,
 }

@@ -9,7 +9,7 @@ use cm_storage::Done;
 use fixed_num::{BodyState, Fx, Value};
 use hw_component::{Component, ModeFault};
 use pages_calls::calls::life_of;
-use pages_calls::described::described;
+use pages_calls::described::checked_description;
 use pages_cases::acts::{Player, hold_acts};
 use pages_cases::pages::{joined, push_parted};
 use std::alloc::Global;
@@ -47,7 +47,7 @@ impl Player for Rig {
     /// The component of a case, its head the lines of a component as in a description, without its name.
     fn begin(alloc: Global, before: &str, head: &str) -> Result<Rig, Fail> {
         let text = joined(alloc, before, head)?;
-        Rig::make(alloc, &described(alloc, text.as_str())?)
+        Rig::make(alloc, &checked_description(alloc, text.as_str())?)
     }
 
     fn told(&mut self, alloc: Global, act: &str) -> Result<String, Fail> {
@@ -148,7 +148,10 @@ fn done_word(done: Done) -> &'static str {
 }
 
 /// Appends `ok`, or the fault.
-pub fn push_end<F: Display + Drop>(told: &mut String, end: Result<(), F>) -> Result<(), Fail> {
+pub(crate) fn push_end<F: Display + Drop>(
+    told: &mut String,
+    end: Result<(), F>,
+) -> Result<(), Fail> {
     match end {
         Ok(()) => told.push_str("ok")?,
         Err(fault) => write!(told, "{fault}")?,
@@ -163,7 +166,7 @@ fn push_read(told: &mut String, done: Done, states: &[Value]) -> Result<(), Fail
 }
 
 /// Appends where a body is, behind a sign where something stands before it.
-pub fn push_body(told: &mut String, sign: &str, body: &BodyState) -> Result<(), Fail> {
+pub(crate) fn push_body(told: &mut String, sign: &str, body: &BodyState) -> Result<(), Fail> {
     push_parted(told, sign, "")?;
     write!(told, "{} {} {}", body.x, body.v, body.f)?;
     Ok(())
@@ -177,7 +180,7 @@ fn push_values(told: &mut String, values: &[Value]) -> Result<(), Fail> {
 }
 
 /// Appends a value behind a space.
-pub fn push_value(told: &mut String, value: &Value) -> Result<(), Fail> {
+pub(crate) fn push_value(told: &mut String, value: &Value) -> Result<(), Fail> {
     match value {
         Value::Unset => told.push_str(" unset")?,
         Value::Num(number) => write!(told, " {number}")?,
@@ -186,7 +189,7 @@ pub fn push_value(told: &mut String, value: &Value) -> Result<(), Fail> {
 }
 
 /// Whole numbers with spaces between them, or `none`.
-pub fn numbers_of(alloc: Global, words: &str) -> Result<Vec<u32>, Fail> {
+pub(crate) fn numbers_of(alloc: Global, words: &str) -> Result<Vec<u32>, Fail> {
     let mut numbers = Vec::new(alloc);
     for word in words.split_whitespace() {
         if word != "none" {
@@ -209,7 +212,7 @@ fn values_of(alloc: Global, words: &str) -> Result<Vec<Value>, Fail> {
 }
 
 /// `unset`, or a number.
-pub fn value_of(word: &str) -> Result<Value, Fail> {
+pub(crate) fn value_of(word: &str) -> Result<Value, Fail> {
     match word {
         "unset" => Ok(Value::Unset),
         _ => Ok(Value::Num(Fx::read(word.as_bytes())?)),

@@ -4,7 +4,7 @@ ghost use Rattle.std.specs.Prelude.{◌<◌, length};
 
 use crate::acts::{push_value, value_of};
 use loan_board::{Board, Loan};
-use pages_calls::described::described;
+use pages_calls::described::checked_description;
 use pages_cases::largest::AT_ALL_LIMITS;
 use pages_cases::pages::{Teller, halves, hold, hold_lines, push_parted};
 use std::alloc::Global;
@@ -59,7 +59,7 @@ impl Teller for Sides {
 
 /// The board of a described robot.
 fn board_of(alloc: Global, text: &str) -> Result<Board, Fail> {
-    Ok(Board::make(alloc, &described(alloc, text)?)?)
+    Ok(Board::make(alloc, &checked_description(alloc, text)?)?)
 }
 
 fn carry_out_all(board: &mut Board, acts: &str) -> Result<(), Fail> {

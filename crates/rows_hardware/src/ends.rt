@@ -10,7 +10,7 @@ use chain_order::{Links, PlaceSet, in_order};
 use cm_document::Checked;
 use cm_model::Member;
 use cm_storage::FailedPart;
-use pages_calls::described::described;
+use pages_calls::described::checked_description;
 use pages_calls::robots::{ARM_AND_LEG, SEVEN};
 use pages_cases::acts::{Player, hold_acts};
 use pages_cases::pages::{halves, push_parted};
@@ -39,7 +39,7 @@ struct Robot {
 impl Player for Robot {
     fn begin(alloc: Global, robot: &str, _head: &str) -> Result<Robot, Fail> {
         Ok(Robot {
-            checked: described(alloc, robot)?,
+            checked: checked_description(alloc, robot)?,
         })
     }
 

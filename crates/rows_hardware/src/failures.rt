@@ -1,6 +1,6 @@
 //! Reads and writes that fail: in the first, a middle and the last cycle, in one cycle both, and listed in any order.
 
-pub const FAILURES: &str = r#"kind = "actuator"
+pub(crate) const FAILURES: &str = r#"kind = "actuator"
 fail_read = [4, 0, 2, 2]
 fail_write = [3, 0, 4]
 joint = [{ name = "j", vmax = 1, position = 1, command = ["velocity"], state = ["velocity", "position"] }]

@@ -9,7 +9,7 @@ use cm_hardware::ResourceManager;
 use cm_storage::FailedPart;
 use fixed_num::BodyState;
 use pages_calls::calls::life_of;
-use pages_calls::described::described;
+use pages_calls::described::checked_description;
 use pages_cases::acts::{Player, hold_acts};
 use pages_cases::pages::{halves, joined, push_parted};
 use sequence::ListRoom;
@@ -38,7 +38,7 @@ impl Player for Robot {
     fn begin(alloc: Global, before: &str, head: &str) -> Result<Robot, Fail> {
         let text = joined(alloc, before, head)?;
         Ok(Robot {
-            checked: described(alloc, text.as_str())?,
+            checked: checked_description(alloc, text.as_str())?,
         })
     }
 

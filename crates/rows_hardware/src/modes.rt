@@ -1,6 +1,6 @@
 //! Claims that are at odds, and which of a joint's interfaces is applied.
 
-pub const MODES: &str = r#"kind = "system"
+pub(crate) const MODES: &str = r#"kind = "system"
 joint = [{ name = "a", vmax = 10, command = ["position", "velocity"] },
   { name = "b", vmax = 10, command = ["effort", "position", "velocity"] }]
 claim 1 0 => mode_refused 0

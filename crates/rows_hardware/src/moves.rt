@@ -1,6 +1,6 @@
 //! A component of each kind through every move, and what moves leave of a write.
 
-pub const MOVES: &str = r#"kind = "sensor"
+pub(crate) const MOVES: &str = r#"kind = "sensor"
 joint = [{ name = "j", vmax = 1, state = ["position"] }]
 life => active
 move active => ok active

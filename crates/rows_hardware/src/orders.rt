@@ -6,7 +6,7 @@ ghost use Rattle.std.specs.Prelude.{◌<◌, IsTrue, All};
 use chain_order::{heights, run_list};
 use cm_document::Checked;
 use cm_model::Member;
-use pages_calls::described::{described, place_of};
+use pages_calls::described::{checked_description, place_of};
 use pages_calls::robots::{ARM_AND_LEG, RISING, SEVEN, SINKING};
 use pages_cases::acts::{Player, hold_acts};
 use pages_cases::pages::{halves, push_parted};
@@ -32,7 +32,7 @@ struct Robot {
 impl Player for Robot {
     fn begin(alloc: Global, robot: &str, _head: &str) -> Result<Robot, Fail> {
         Ok(Robot {
-            checked: described(alloc, robot)?,
+            checked: checked_description(alloc, robot)?,
         })
     }
 

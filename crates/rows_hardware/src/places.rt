@@ -8,7 +8,7 @@ use cm_document::Checked;
 use cm_places::CtlPlaces;
 use cm_places::laws::each_has_its_row;
 use loan_board::Board;
-use pages_calls::described::described;
+use pages_calls::described::checked_description;
 use pages_cases::largest::AT_ALL_LIMITS;
 use pages_cases::pages::{Teller, hold, push_parted};
 use std::alloc::Global;
@@ -30,7 +30,7 @@ struct Rows;
 
 impl Teller for Rows {
     fn told(&self, alloc: Global, text: &str) -> Result<String, Fail> {
-        rows_of(alloc, &described(alloc, text)?)
+        rows_of(alloc, &checked_description(alloc, text)?)
     }
 }
 
@@ -40,7 +40,7 @@ struct Counts;
 
 impl Teller for Counts {
     fn told(&self, alloc: Global, text: &str) -> Result<String, Fail> {
-        counted(alloc, &described(alloc, text)?)
+        counted(alloc, &checked_description(alloc, text)?)
     }
 }
 

@@ -5,7 +5,7 @@ use cm_document::{Checked, CompDesc, CtlDesc, Description, JointDesc};
 use cm_hardware::ResourceManager;
 use cm_model::{CompLine, IfaceLine};
 use iface_names::{IfaceName, Kind, Name};
-use pages_calls::described::described;
+use pages_calls::described::checked_description;
 use pages_cases::largest::AT_ALL_LIMITS;
 use pages_cases::pages::{Teller, hold};
 use std::alloc::Global;
@@ -30,7 +30,7 @@ struct Lists;
 
 impl Teller for Lists {
     fn told(&self, alloc: Global, text: &str) -> Result<String, Fail> {
-        lists_of(alloc, &described(alloc, text)?)
+        lists_of(alloc, &checked_description(alloc, text)?)
     }
 }
 
@@ -80,7 +80,7 @@ struct Counts;
 
 impl Teller for Counts {
     fn told(&self, alloc: Global, text: &str) -> Result<String, Fail> {
-        counts_of(alloc, &described(alloc, text)?)
+        counts_of(alloc, &checked_description(alloc, text)?)
     }
 }
 

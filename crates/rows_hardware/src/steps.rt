@@ -1,6 +1,6 @@
 //! Bodies stepped after a write and without one.
 
-pub const STEPS: &str = r#"kind = "actuator"
+pub(crate) const STEPS: &str = r#"kind = "actuator"
 joint = [{ name = "j", vmax = 10, damping = "0.5", command = ["effort"], state = ["position", "velocity", "effort"] }]
 claim 0 => ok
 write 0 2 => ok

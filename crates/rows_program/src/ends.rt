@@ -45,7 +45,7 @@ impl Eprint for Heard {
 }
 
 /// How a run ends by its status: the number, and what stands on standard error, without the end of its one line.
-pub fn end(alloc: Global, status: &Status) -> Result<String, Fail> {
+pub(crate) fn end(alloc: Global, status: &Status) -> Result<String, Fail> {
     let heard = Heard::new(alloc);
     let code = report(&heard, status);
     let told = heard.told.into_inner();
@@ -226,19 +226,22 @@ fn not_legal(alloc: Global) -> Status {
 
 /// What speaks against a plan.
 fn push_plans(alloc: Global, ends: &mut String) -> Result<(), Fail> {
-    let fwd = Name::read(alloc, b"fwd")?;
-    push_plan(alloc, ends, SpawnFault::NotDescribed(fwd.clone()?))?;
-    push_plan(alloc, ends, SpawnFault::Twice(fwd.clone()?))?;
-    push_plan(alloc, ends, SpawnFault::NoBlank(fwd.clone()?))?;
-    push_plan(alloc, ends, SpawnFault::RefusesConfig(fwd.clone()?))?;
-    push_never(alloc, ends, fwd)?;
+    push_plan(alloc, ends, SpawnFault::NotDescribed(fwd(alloc)?))?;
+    push_plan(alloc, ends, SpawnFault::Twice(fwd(alloc)?))?;
+    push_plan(alloc, ends, SpawnFault::NoBlank(fwd(alloc)?))?;
+    push_plan(alloc, ends, SpawnFault::RefusesConfig(fwd(alloc)?))?;
+    push_plan(alloc, ends, never(alloc)?)?;
     push_plan(alloc, ends, SpawnFault::NoCycle)
 }
 
-fn push_never(alloc: Global, ends: &mut String, controller: Name) -> Result<(), Fail> {
+fn fwd(alloc: Global) -> Result<Name, Fail> {
+    Ok(Name::read(alloc, b"fwd")?)
+}
+
+fn never(alloc: Global) -> Result<SpawnFault, Fail> {
     let interface = IfaceName::read(alloc, b"pid/j1/position")?;
     let cause = Cause::MissingFollower(Boxed::new(alloc, interface)?);
-    push_plan(alloc, ends, SpawnFault::Never(controller, cause))
+    Ok(SpawnFault::Never(fwd(alloc)?, cause))
 }
 
 fn push_plan(alloc: Global, ends: &mut String, fault: SpawnFault) -> Result<(), Fail> {

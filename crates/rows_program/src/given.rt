@@ -6,7 +6,7 @@ use std::rt::Env;
 
 /// A runtime that only has words, each as its bytes; the program's name is the first.
 #[derive(Drop)]
-pub struct GivenWords {
+pub(crate) struct GivenWords {
     words: Vec<Vec<u8>>,
 }
 

@@ -103,12 +103,22 @@ where
     let Ok(words) = GivenWords::of(alloc, "run") else {
         return true;
     };
-    let (Ok(mut source), Ok(mut sink)) = (source(alloc), sink(alloc)) else {
+    let Ok(mut source) = source(alloc) else {
+        return true;
+    };
+    let Ok(mut sink) = sink(alloc) else {
         return true;
     };
     let status = run_words(&(words, alloc), rt, &mut source, &mut sink);
-    hold_trace(rt, &status, sink.bytes());
-    status == Status::Memory
+    wanted_memory(rt, status, sink.bytes())
+}
+
+/// Whether a run that ended with this status wanted memory. It has printed what it was to.
+fn wanted_memory<R: Abort>(rt: &R, status: Status, printed: &[u8]) -> bool {
+    let wanted = status == Status::Memory;
+    hold_trace(rt, &status, printed);
+    drop(status);
+    wanted
 }
 
 /// Ends the test where a run ended with another status, or has not printed what it was to.

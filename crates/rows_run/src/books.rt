@@ -1,7 +1,8 @@
 //! What a run leaves behind: its history and the boxes of the controllers that are loaded then.
 
 use cm_words::JobKind;
-use pages_calls::stocks::blanks;
+use outside_io::{MemSink, MemSource};
+use pages_calls::stocks::few_blanks;
 use pages_cases::pages::{Teller, hold};
 use pages_runs::books::left_by;
 use pages_runs::documents::ROBOT;
@@ -17,13 +18,25 @@ struct Books {
 
 impl Teller for Books {
     fn told(&self, alloc: Global, text: &str) -> Result<String, Fail> {
+        let mut source = OF_PROGRAM.source(alloc, text)?;
+        let mut sink = ample_sink(alloc)?;
+        self.left_over(alloc, &mut source, &mut sink)
+    }
+}
+
+impl Books {
+    /// How a run between these ends, and what it leaves.
+    fn left_over(
+        &self,
+        alloc: Global,
+        source: &mut MemSource,
+        sink: &mut MemSink,
+    ) -> Result<String, Fail> {
         if self.kind == JobKind::Live {
             return Err(Fail::new("a live run"));
         }
-        let mut source = OF_PROGRAM.source(alloc, text)?;
-        let mut sink = ample_sink(alloc)?;
-        let blanks = blanks(alloc, IN_STOCK)?;
-        let (status, book) = run_by(self.kind, alloc, &mut source, &mut sink, blanks);
+        let blanks = few_blanks(alloc, IN_STOCK)?;
+        let (status, book) = run_by(self.kind, alloc, source, sink, blanks);
         left_by(alloc, status, book)
     }
 }

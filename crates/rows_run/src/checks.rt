@@ -69,7 +69,7 @@ fn told_of(alloc: Global, status: &Status, printed: &[u8]) -> Result<String, Fai
 }
 
 /// A wrong line, with what was to come there.
-pub fn told_wrong(alloc: Global, line: u32, expected: &[u8]) -> Result<String, Fail> {
+pub(crate) fn told_wrong(alloc: Global, line: u32, expected: &[u8]) -> Result<String, Fail> {
     if expected.is_empty() {
         return Ok(format!(in alloc; "line {line}, nothing expected")?);
     }

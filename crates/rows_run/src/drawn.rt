@@ -11,11 +11,11 @@ use std::alloc::Global;
 use std::test::Fail;
 
 /// What stands before all documents here but the longest one.
-pub const HEAD: &str = "version = 1\nupdate_rate = 100\n";
+pub(crate) const HEAD: &str = "version = 1\nupdate_rate = 100\n";
 
 /// A chain above a joint that cannot be read in cycle 2, a broadcaster of one that cannot be written in cycle 3 and is
 /// finalized for that, and a mock whose update fails in cycle 1. A script follows.
-pub const FAILING: &str = r#"version = 1
+pub(crate) const FAILING: &str = r#"version = 1
 update_rate = 100
 cycles = 6
 [[component]]
@@ -58,7 +58,7 @@ fail_update = [1]
 
 /// Two mocks fail in cycle 1. Of those that they name one is not loaded, one is active, one commands that one's joint,
 /// and one is named by both.
-pub const STAND_INS: &str = r#"version = 1
+pub(crate) const STAND_INS: &str = r#"version = 1
 update_rate = 100
 cycles = 3
 [[component]]
@@ -106,7 +106,7 @@ switch strict +mk +mk2 +fwd
 
 /// Tells what was not done as asked in the run of a document, or went wrong, over so many blanks of each kind.
 #[derive(Clone, Copy)]
-pub struct Whys {
+pub(crate) struct Whys {
     pub in_stock: u32,
 }
 
@@ -118,7 +118,7 @@ impl Teller for Whys {
 }
 
 /// The page that shows the run of a document.
-pub fn drawn(alloc: Global, text: &str) -> Result<String, Fail> {
+pub(crate) fn drawn(alloc: Global, text: &str) -> Result<String, Fail> {
     shown(alloc, text, IN_STOCK, Wanted::Page)
 }
 
@@ -142,7 +142,7 @@ fn shown(alloc: Global, text: &str, in_stock: u32, what: Wanted) -> Result<Strin
 }
 
 /// The document that these bytes are.
-pub fn read(alloc: Global, bytes: &[u8]) -> Result<Document, Fail> {
+pub(crate) fn read(alloc: Global, bytes: &[u8]) -> Result<Document, Fail> {
     if bytes.len() > LONGEST_DOCUMENT {
         return Err(Fail::new("the document is too long"));
     }

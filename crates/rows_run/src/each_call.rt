@@ -1,7 +1,7 @@
 //! Runs whose source or sink fails in each of its calls, one after the other, and sinks of each size.
 
 use outside_io::{MemSink, MemSource};
-use pages_calls::stocks::blanks;
+use pages_calls::stocks::few_blanks;
 use pages_cases::pages::hold_told;
 use pages_runs::documents::MOVED;
 use pages_runs::runs::{AMPLE, IN_STOCK, OF_PROGRAM, in_words, run_over};
@@ -42,10 +42,16 @@ fn hold_read(alloc: Global, failing: usize, status: &str, taken: &str) -> Result
     let bytes = MOVED.as_bytes().to_vec(alloc)?;
     let mut source = MemSource::make(bytes, 8, vec![in alloc; failing as u64]?);
     let mut sink = sink(alloc, AMPLE, AMPLE, NO_CALL)?;
-    let (ended, book) = run_over(alloc, &mut source, &mut sink, blanks(alloc, IN_STOCK)?);
-    drop(book);
-    let ended = in_words(alloc, ended)?;
+    let ended = ended_over(alloc, &mut source, &mut sink)?;
     hold_ended(alloc, ended.as_str(), &sink, status, taken)
+}
+
+/// How a run between these ends, in words.
+fn ended_over(alloc: Global, source: &mut MemSource, sink: &mut MemSink) -> Result<String, Fail> {
+    let blanks = few_blanks(alloc, IN_STOCK)?;
+    let (status, book) = run_over(alloc, source, sink, blanks);
+    drop(book);
+    in_words(alloc, status)
 }
 
 /// The call behind the last piece is the flush.
@@ -126,10 +132,15 @@ fn hold_ended(
 }
 
 /// The number of no call.
-pub const NO_CALL: usize = 1_000_000;
+pub(crate) const NO_CALL: usize = 1_000_000;
 
 /// A sink with so much room that takes so many bytes at a time and fails in this call.
-pub fn sink(alloc: Global, room: usize, step: usize, failing: usize) -> Result<MemSink, Fail> {
+pub(crate) fn sink(
+    alloc: Global,
+    room: usize,
+    step: usize,
+    failing: usize,
+) -> Result<MemSink, Fail> {
     if step == 0 {
         return Err(Fail::new("a step of none"));
     }

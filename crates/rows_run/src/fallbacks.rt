@@ -12,7 +12,7 @@ use reasons::REASONS;
 use std::test::Fail;
 
 /// A mock whose update fails in cycle 1, and the forward that stands in for it, both ready.
-pub const ROBOT: &str = r#"version = 1
+pub(crate) const ROBOT: &str = r#"version = 1
 update_rate = 100
 cycles = 4
 [[component]]
@@ -37,7 +37,7 @@ configure fwd
 "#;
 
 /// It comes at the begin after the failure, before the requests, unless something keeps it; and only once.
-pub const STAND_INS: &str = r"switch strict +mk
+pub(crate) const STAND_INS: &str = r"switch strict +mk
 await 4
 list controllers
 => ok

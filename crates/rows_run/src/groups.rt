@@ -12,7 +12,7 @@ fn groups_are_switched(rt: HostRuntime) -> Result<(), Fail> {
 }
 
 /// A trajectory above a pid, a group of both, and both ready.
-pub const ROBOT: &str = r#"version = 2
+pub(crate) const ROBOT: &str = r#"version = 2
 update_rate = 100
 cycles = 3
 [[component]]
@@ -44,7 +44,7 @@ configure traj
 
 /// A group comes and restarts. At best it comes though a member is named twice, and leaves though another group is not
 /// described.
-pub const SWITCHES: &str = r"switch strict +@motion
+pub(crate) const SWITCHES: &str = r"switch strict +@motion
 switch strict -@motion +@motion
 => ok
 a load pid: ok 0
@@ -83,7 +83,7 @@ loop end 2: joint j1 0.000000 0.000000 0.000000
 loop close: none";
 
 /// The same robot in the first version, which has no groups.
-pub const FIRST_VERSION: &str = r#"version = 1
+pub(crate) const FIRST_VERSION: &str = r#"version = 1
 update_rate = 100
 cycles = 3
 [[component]]
@@ -111,7 +111,7 @@ configure traj
 "#;
 
 /// Its switches may name groups, of which none is described.
-pub const WITHOUT_GROUPS: &str = r"switch strict +@nosuch
+pub(crate) const WITHOUT_GROUPS: &str = r"switch strict +@nosuch
 switch best +traj -@traj +pid
 => ok
 a load pid: ok 0

@@ -1,7 +1,10 @@
 //! Traces that are longer than a document may be: the call judges them, over the document alone.
 
+ghost use Rattle.std.specs.Prelude.{◌<◌, ◌-◌, ◌^◌, length, IfOk};
+ghost use Rattle.cm_document.specs.ScriptLaws.{MeetsRules};
+
 use crate::checks::told_wrong;
-use cm_document::LONGEST_DOCUMENT;
+use cm_document::{Document, LONGEST_DOCUMENT};
 use cm_model::Blanks;
 use cm_top::read_traced;
 use pages_cases::pages::{Teller, halves, hold, joined};
@@ -21,27 +24,49 @@ struct ByTheCall;
 impl Teller for ByTheCall {
     fn told(&self, alloc: Global, text: &str) -> Result<String, Fail> {
         let (document, trace) = halves(text, SEPARATOR)?;
-        let document = joined(alloc, document, SEPARATOR)?;
-        if document.len() > LONGEST_DOCUMENT || trace.len() > AMPLE {
-            return Err(Fail::new("a longer text"));
+        if trace.len() > AMPLE {
+            return Err(Fail::new("a longer trace"));
         }
-        let Ok(given) = read_traced(alloc, document.as_bytes()) else {
-            return Err(Fail::new("a document that is refused"));
-        };
-        let document = &given.document;
-        match check_trace(
-            alloc,
-            &document.description,
-            &document.script,
-            &Blanks::of_each(IN_STOCK),
-            trace.as_bytes(),
-        ) {
-            Ok(()) => Ok(format!(in alloc; "{} bytes: legal", trace.len())?),
-            Err(TraceFault::NotLegal { line, expected }) => {
-                told_wrong(alloc, line, expected.as_slice())
-            }
-            Err(TraceFault::Memory) => Err(Fail::new("a want of memory")),
+        let given = joined(alloc, document, SEPARATOR)?;
+        let document = read(alloc, given.as_str())?;
+        let told = judged(alloc, &document, trace.as_bytes());
+        drop(document);
+        told
+    }
+}
+
+/// The document before a trace that lies elsewhere.
+fn read(alloc: Global, given: &str) -> Result<Document, Fail>
+    ensures { IfOk result (λ document. MeetsRules document.script) }
+{
+    if given.len() > LONGEST_DOCUMENT {
+        return Err(Fail::new("a longer document"));
+    }
+    match read_traced(alloc, given.as_bytes()) {
+        Ok(given) => Ok(given.document),
+        Err(fault) => {
+            drop(fault);
+            Err(Fail::new("a document that is refused"))
         }
+    }
+}
+
+/// Tells how the call judges a trace of the document.
+fn judged(alloc: Global, document: &Document, trace: &[u8]) -> Result<String, Fail>
+    requires rules { MeetsRules document.now.script }
+    requires short { length trace.now < 2 ^ 32 - 1 }
+{
+    let blanks = Blanks::of_each(IN_STOCK);
+    let Document {
+        description,
+        script,
+    } = document;
+    match check_trace(alloc, description, script, &blanks, trace) {
+        Ok(()) => Ok(format!(in alloc; "{} bytes: legal", trace.len())?),
+        Err(TraceFault::NotLegal { line, expected }) => {
+            told_wrong(alloc, line, expected.as_slice())
+        }
+        Err(TraceFault::Memory) => Err(Fail::new("a want of memory")),
     }
 }
 

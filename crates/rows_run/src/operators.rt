@@ -3,7 +3,7 @@
 
 /// Several sessions without a robot: one has no lines, eight are as many as there may be, and five ask for a switch at
 /// once, so that the last finds a full queue; its await and its other switch come after the close.
-pub const OPERATORS: &str = r#"version = 1
+pub(crate) const OPERATORS: &str = r#"version = 1
 update_rate = 100
 cycles = 1
 [[controller]]
@@ -76,7 +76,7 @@ e switch strict: loop_ended"#;
 
 /// Two operators of `ROBOT`: one waits for its request while the other goes on, one takes the joint over from the
 /// other, and a schedule is passed over where no turns are asked for.
-pub const TWO_OPERATORS: &str = r"cycles = 3
+pub(crate) const TWO_OPERATORS: &str = r"cycles = 3
 --- script ---
 session left
 load fwd

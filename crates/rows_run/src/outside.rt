@@ -1,7 +1,7 @@
 //! Runs over a source or a sink that fails.
 
 use outside_io::{MemSink, MemSource};
-use pages_calls::stocks::blanks;
+use pages_calls::stocks::few_blanks;
 use pages_cases::pages::{Teller, hold};
 use pages_cases::words::word;
 use pages_runs::books::left_by;
@@ -22,20 +22,22 @@ impl Teller for Fails {
         let row = text.trim_end();
         let mut source = source_of(alloc, row)?;
         let mut sink = sink_of(alloc, row)?;
-        let blanks = blanks(alloc, IN_STOCK)?;
-        let (status, book) = run_over(alloc, &mut source, &mut sink, blanks);
-        let mut told = left_by(alloc, status, book)?;
-        push_printed(&mut told, sink.bytes())?;
-        Ok(told)
+        let left = left_over(alloc, &mut source, &mut sink)?;
+        with_printed(alloc, left.as_str(), sink.bytes())
     }
 }
 
-/// Appends what the sink took.
-fn push_printed(told: &mut String, bytes: &[u8]) -> Result<(), Fail> {
-    told.push_str("\n")?;
-    told.push_str(str::from_utf8(bytes)?)?;
-    told.push_str(".")?;
-    Ok(())
+/// How a run between these ends, and what it leaves.
+fn left_over(alloc: Global, source: &mut MemSource, sink: &mut MemSink) -> Result<String, Fail> {
+    let blanks = few_blanks(alloc, IN_STOCK)?;
+    let (status, book) = run_over(alloc, source, sink, blanks);
+    left_by(alloc, status, book)
+}
+
+/// What a run leaves, and below it what the sink took.
+fn with_printed(alloc: Global, left: &str, bytes: &[u8]) -> Result<String, Fail> {
+    let taken = str::from_utf8(bytes)?;
+    Ok(format!(in alloc; "{left}\n{taken}.")?)
 }
 
 fn source_of(alloc: Global, row: &str) -> Result<MemSource, Fail> {

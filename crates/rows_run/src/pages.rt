@@ -1,7 +1,7 @@
 //! Whole documents, each with how its run ends and what is printed.
 
 /// Faults of the text, then of the checks, with components and without, and all of them before those of the script.
-pub const DESCRIPTIONS: &str = r#"=> description: bad_key version
+pub(crate) const DESCRIPTIONS: &str = r#"=> description: bad_key version
 
 version = 1
 update_rate = 100
@@ -92,7 +92,7 @@ component = []
 loop close: none"#;
 
 /// Where the script begins, behind three lines of description.
-pub const SEPARATORS: &str = r"version = 1
+pub(crate) const SEPARATORS: &str = r"version = 1
 update_rate = 100
 cycles = 0
 => script: bad_line 4
@@ -150,7 +150,7 @@ jump
 => script: bad_line 7";
 
 /// Mocks or another controller, and scripts.
-pub const SCRIPTS: &str = r#"version = 1
+pub(crate) const SCRIPTS: &str = r#"version = 1
 update_rate = 100
 cycles = 0
 [[controller]]
@@ -279,14 +279,14 @@ session a
 loop close: none"#;
 
 /// As long as documents may be, and one byte longer.
-pub const LENGTHS: &str = r"#<0..1048575 * x>\
+pub(crate) const LENGTHS: &str = r"#<0..1048575 * x>\
 => description: bad_key version
 
 #<0..1048576 * x>\
 => document longer than 1048576 bytes";
 
 /// What is told of a run of `FIRST`, which stands before it.
-pub const OF_FIRST: &str = "=> ok
+pub(crate) const OF_FIRST: &str = "=> ok
 a load mk: ok 0
 a list controllers: mk mock unconfigured 0
 a load nosuch: not_described
@@ -298,7 +298,7 @@ loop end 1: none
 loop close: none";
 
 /// No cycles, and nothing that is described or asked for.
-pub const NOTHING: &str = "version = 1
+pub(crate) const NOTHING: &str = "version = 1
 update_rate = 100
 cycles = 0
 --- script ---

@@ -5,7 +5,7 @@ use pages_runs::runs::OF_PROGRAM;
 use std::test::Fail;
 
 /// A joint behind a gear, with a limiter above that.
-pub const GEARED: &str = r#"version = 1
+pub(crate) const GEARED: &str = r#"version = 1
 update_rate = 100
 cycles = 6
 [[component]]
@@ -38,7 +38,7 @@ claims = ["soft/j1/position"]
 "#;
 
 /// Two joints, and controllers of one and of both.
-pub const WRIST: &str = r#"version = 1
+pub(crate) const WRIST: &str = r#"version = 1
 update_rate = 100
 cycles = 6
 [[component]]
@@ -70,7 +70,7 @@ reduction2 = 2
 
 /// A limiter above a transmission is updated before it, and needs it. What it was sent counts until a controller comes
 /// above it. Then it restarts chained, from where its joint stands, without a step.
-pub const CHAINED: &str = r"--- script ---
+pub(crate) const CHAINED: &str = r"--- script ---
 session a
 load gear
 load soft
@@ -120,7 +120,7 @@ loop close: none";
 
 /// A differential claims two joints, and a transmission may not claim one of them beside it. A restart forgets what it
 /// was sent.
-pub const CLAIMED: &str = r"--- script ---
+pub(crate) const CLAIMED: &str = r"--- script ---
 session a
 load wrist
 load gear

@@ -3,7 +3,7 @@
 use cm_document::Checked;
 use cm_model::Entry;
 use make_document::make_document;
-use pages_calls::described::described;
+use pages_calls::described::checked_description;
 use pages_cases::pages::{Teller, halves, hold};
 use pages_runs::books::history_of;
 use pages_runs::documents::{FIRST, MOVED};
@@ -21,7 +21,7 @@ impl Teller for Summaries {
     fn told(&self, alloc: Global, text: &str) -> Result<String, Fail> {
         let (description, _) = halves(text, "--- script ---\n")?;
         let history = history_of(alloc, text, IN_STOCK)?;
-        let checked = described(alloc, description)?;
+        let checked = checked_description(alloc, description)?;
         let summary = summed_up(alloc, &checked, history.as_slice());
         drop(checked);
         summary

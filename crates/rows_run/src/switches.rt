@@ -31,7 +31,7 @@ fn a_switch_is_done_refused_or_left_in_part(rt: HostRuntime) -> Result<(), Fail>
 }
 
 /// The first whole run of one joint.
-pub const OF_MOVED: &str = "=> ok
+pub(crate) const OF_MOVED: &str = "=> ok
 a load fwd: ok 0
 a configure fwd: ok
 a switch strict +fwd: queued 0
@@ -47,7 +47,7 @@ loop close: none";
 
 /// What becomes of switches: a chain that was loaded in the wrong order; no names, a name twice and a restart by name;
 /// and a lower update rate, at which the value is taken in the next cycle that is due.
-pub const SWITCHES: &str = r#"version = 1
+pub(crate) const SWITCHES: &str = r#"version = 1
 update_rate = 100
 cycles = 3
 [[component]]
@@ -190,7 +190,7 @@ loop end 6: run fwd ok 0.500000; joint j1 0.040000 1.000000 0.000000
 loop close: none"#;
 
 /// Moves of a component that are asked for, beside a controller that uses it, and what cannot be had while it is down.
-pub const REQUESTS: &str = r#"version = 1
+pub(crate) const REQUESTS: &str = r#"version = 1
 update_rate = 100
 cycles = 6
 [[component]]
@@ -297,7 +297,7 @@ a told 4: refused nosuch unknown
 loop close: none"#;
 
 /// A controller that is not ready and whose update fails later; a read that fails beneath a chain; a write that fails.
-pub const FAILURES: &str = r#"version = 1
+pub(crate) const FAILURES: &str = r#"version = 1
 update_rate = 100
 cycles = 6
 [[component]]

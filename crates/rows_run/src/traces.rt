@@ -39,11 +39,13 @@ fn hold_marked(alloc: Global, legal: usize, line: u32, then: &str) -> Result<(),
     let title = format!(in alloc;
         "<title>the trace goes wrong at its line {line}, {then}</title>"
     )?;
-    hold_element(page.as_str(), format!(in alloc; "{title}</rect>")?)?;
-    hold_element(
-        page.as_str(),
-        format!(in alloc; "{title}line {line}</text>")?,
-    )
+    hold_bar(alloc, page.as_str(), title.as_str(), line)
+}
+
+/// Fails where the page lacks a bar with this title, or this line's number above.
+fn hold_bar(alloc: Global, page: &str, title: &str, line: u32) -> Result<(), Fail> {
+    hold_element(page, format!(in alloc; "{title}</rect>")?)?;
+    hold_element(page, format!(in alloc; "{title}line {line}</text>")?)
 }
 
 /// The page of a trace that goes wrong at a line, behind so many legal ones.

@@ -3,7 +3,7 @@
 
 /// The turns of two operators of one robot. In the first case a switch is decided where the cycle begins, and told
 /// while it is aloft: there the active controller is not unloaded, and the other is.
-pub const TURNS: &str = r"cycles = 1
+pub(crate) const TURNS: &str = r"cycles = 1
 --- script ---
 session a
 load fwd
@@ -115,7 +115,7 @@ loop close: none";
 
 /// Turns that cannot be made do nothing: to end what is not aloft, to begin what is or what is not left, to go on
 /// without a line or before the ticket is decided or the cycle has ended.
-pub const IDLE_TURNS: &str = r"cycles = 1
+pub(crate) const IDLE_TURNS: &str = r"cycles = 1
 --- script ---
 session a
 switch strict
@@ -160,7 +160,7 @@ loop close: none";
 
 /// What comes after the turns: a cycle that is aloft ends, the cycles that are left follow, and the sessions settle as
 /// without turns.
-pub const AFTER_TURNS: &str = r"cycles = 2
+pub(crate) const AFTER_TURNS: &str = r"cycles = 2
 --- script ---
 session a
 load mk

@@ -8,9 +8,9 @@ use cm_stock::Stock;
 use cm_top::{Status, run};
 use ctl_trait::Controller;
 use outside_io::{Gate, MemSink, MemSource, Pace, Point};
-use pages_calls::stocks::blanks;
+use pages_calls::stocks::few_blanks;
 use pages_cases::pages::{expanded, halves, hold_told, written_out};
-use pages_runs::runs::{IN_STOCK, ample_sink, in_words};
+use pages_runs::runs::{IN_STOCK, OF_PROGRAM, ample_sink, in_words};
 use std::alloc::Global;
 use std::str;
 use std::sync::Wait;
@@ -213,14 +213,12 @@ fn a_live_run_calls_pace_and_gate(rt: HostRuntime) -> Result<(), Fail> {
 }
 
 fn hold_live<R: Threads + Wait + Sync>(rt: &R, alloc: Global, given: &str) -> Result<(), Fail> {
-    let words = words(alloc, given)?;
-    let blanks = blanks(alloc, IN_STOCK)?;
     let want = Want {
         ended: "ok",
         printed: BY_LIVE,
         calls: CALLS_OF_LIVE,
     };
-    hold_words(rt, alloc, words.as_slice(), ALONE, blanks, &want)
+    hold_words(rt, alloc, given, ALONE, &want)
 }
 
 #[test]
@@ -262,37 +260,32 @@ fn a_made_document_is_run_live(rt: HostRuntime) -> Result<(), Fail> {
 }
 
 fn hold_made_live<R: Threads + Wait + Sync>(rt: &R, alloc: Global) -> Result<(), Fail> {
-    let words = words(alloc, "live|--make|1")?;
-    let mut source = MemSource::make(vec![in alloc]?, 1000, vec![in alloc]?);
-    let mut sink = ample_sink(alloc)?;
-    let blanks = blanks(alloc, IN_STOCK)?;
-    let ran = run_counted(rt, alloc, words.as_slice(), &mut source, &mut sink, blanks);
-    let calls = ran.calls;
-    let want = Want {
-        ended: "ok",
-        printed: "",
-        calls,
-    };
-    hold_ran(alloc, ran, &want)?;
-    if calls < CALLS_OF_MADE {
+    let ran = ran_by(rt, alloc, "live|--make|1", "")?;
+    hold_ended(alloc, &ran, "ok")?;
+    if ran.calls < CALLS_OF_MADE {
         return Err(Fail::new("too few calls of pace and gate"));
     }
-    hold_summary(alloc, str::from_utf8(sink.bytes())?)
+    hold_summary(alloc, ran.printed.as_str())
 }
 
 /// Fails unless a live run of the made document of one round may have this summary.
 fn hold_summary(alloc: Global, summary: &str) -> Result<(), Fail> {
-    let counts = Counts {
-        updates: number_between(summary, "updates ", "\n")?,
-        done: number_between(summary, " done ", " refused")?,
-        ended: number_between(summary, " ended ", "\n")?,
-        hundredths: number_between(summary, "joint j1 0.0", "0000\n")?,
-    };
+    let counts = counts_in(summary)?;
     if !may_be(counts) {
         return Err(Fail::new(String::from_str(alloc, summary)?));
     }
     let want = summary_with(alloc, counts)?;
     hold_told(alloc, "a live run", summary, want.as_str())
+}
+
+/// The numbers of a summary.
+fn counts_in(summary: &str) -> Result<Counts, Fail> {
+    Ok(Counts {
+        updates: number_between(summary, "updates ", "\n")?,
+        done: number_between(summary, " done ", " refused")?,
+        ended: number_between(summary, " ended ", "\n")?,
+        hundredths: number_between(summary, "joint j1 0.0", "0000\n")?,
+    })
 }
 
 /// The number between the first two such signs.
@@ -328,10 +321,16 @@ fn summary_with(alloc: Global, counts: Counts) -> Result<String, Fail> {
     } = counts;
     let asks = done.saturating_add(ended);
     let entries = asks.saturating_add(21 + 21);
-    let mut summary = format!(in alloc; "cycles 10\nentries {entries}\nupdates {updates}\n")?;
-    write!(summary, "asks {asks} done {done} refused 0 ended {ended}\n")?;
-    write!(summary, "joint j0 0.000000\njoint j1 0.0{hundredths}0000\n")?;
-    summary.push_str("<2..8 * joint j# 0.000000\n>")?;
+    let summary = format!(in alloc;
+        "cycles 10
+entries {entries}
+updates {updates}
+asks {asks} done {done} refused 0 ended {ended}
+joint j0 0.000000
+joint j1 0.0{hundredths}0000
+<2..8 * joint j# 0.000000
+>"
+    )?;
     expanded(alloc, summary.as_str())
 }
 
@@ -343,7 +342,7 @@ struct Want<'a> {
     calls: u64,
 }
 
-/// Fails where a run by the words of a row does, over the program's stock.
+/// Fails where a run by the words of a row ends otherwise, or prints something else, or calls pace or gate.
 fn hold_run<R: Threads + Wait + Sync>(
     rt: &R,
     alloc: Global,
@@ -351,48 +350,95 @@ fn hold_run<R: Threads + Wait + Sync>(
     want: &str,
     trace: &str,
 ) -> Result<(), Fail> {
-    let words = words(alloc, given)?;
-    let blanks = blanks(alloc, IN_STOCK)?;
     let want = Want {
         ended: want,
         printed: trace,
         calls: 0,
     };
-    hold_words(rt, alloc, words.as_slice(), DOCUMENT, blanks, &want)
+    hold_words(rt, alloc, given, DOCUMENT, &want)
 }
 
 /// Fails where a run of the document by these words ends otherwise, or prints something else, or calls pace and gate
 /// more or less often, or leaves a book where it should leave none, or none where it should.
-fn hold_words<R: Threads + Wait + Sync, C: Controller + Send>(
+fn hold_words<R: Threads + Wait + Sync>(
     rt: &R,
     alloc: Global,
-    words: &[String],
+    given: &str,
     document: &str,
-    blanks: Vec<C>,
     want: &Want<'_>,
-) -> Result<(), Fail>
-    requires blank { All (λ c. IsBlank (C.meaning c)) blanks.items }
-    requires few { length blanks.items < 2 ^ 32 }
-{
-    let bytes = document.as_bytes().to_vec(alloc)?;
-    let mut source = MemSource::make(bytes, 1000, vec![in alloc]?);
-    let mut sink = ample_sink(alloc)?;
-    let ran = run_counted(rt, alloc, words, &mut source, &mut sink, blanks);
-    hold_ran(alloc, ran, want)?;
-    hold_told(
-        alloc,
-        "its words",
-        str::from_utf8(sink.bytes())?,
-        want.printed,
-    )
+) -> Result<(), Fail> {
+    let ran = ran_by(rt, alloc, given, document)?;
+    if ran.calls != want.calls {
+        return Err(Fail::new("other calls of pace and gate"));
+    }
+    hold_ended(alloc, &ran, want.ended)?;
+    hold_told(alloc, "its words", ran.printed.as_str(), want.printed)
 }
 
-/// How a run ended, whether it left a book, and how often pace and gate were called.
+/// Fails where a run ended otherwise, or a book is there without a run or is not there with one.
+fn hold_ended(alloc: Global, ran: &Ran, want: &str) -> Result<(), Fail> {
+    if ran.has_book != (want == "ok") {
+        return Err(Fail::new("a book without a run, or a run without a book"));
+    }
+    hold_told(alloc, "its words", ran.ended.as_str(), want)
+}
+
+/// How a run ended, what it printed, whether it left a book, and how often pace and gate were called.
 #[derive(Drop)]
 struct Ran {
+    ended: String,
+    printed: String,
+    has_book: bool,
+    calls: u64,
+}
+
+/// The run of a document by the words of a row, over the program's stock.
+fn ran_by<R: Threads + Wait + Sync>(
+    rt: &R,
+    alloc: Global,
+    given: &str,
+    document: &str,
+) -> Result<Ran, Fail> {
+    let words = words(alloc, given)?;
+    let mut source = OF_PROGRAM.source(alloc, document)?;
+    let mut sink = ample_sink(alloc)?;
+    let counted = run_stocked(rt, alloc, words.as_slice(), &mut source, &mut sink)?;
+    in_full(alloc, counted, sink.bytes())
+}
+
+/// A run that was counted, in words, with what it printed.
+fn in_full(alloc: Global, counted: Counted, printed: &[u8]) -> Result<Ran, Fail> {
+    let Counted {
+        status,
+        has_book,
+        calls,
+    } = counted;
+    Ok(Ran {
+        ended: in_words(alloc, status)?,
+        printed: String::from_str(alloc, str::from_utf8(printed)?)?,
+        has_book,
+        calls,
+    })
+}
+
+/// The status of a run, whether it left a book, and how often pace and gate were called.
+#[derive(Drop)]
+struct Counted {
     status: Status,
     has_book: bool,
     calls: u64,
+}
+
+/// Runs the words over the program's stock.
+fn run_stocked<R: Threads + Wait + Sync>(
+    rt: &R,
+    alloc: Global,
+    words: &[String],
+    source: &mut MemSource,
+    sink: &mut MemSink,
+) -> Result<Counted, Fail> {
+    let blanks = few_blanks(alloc, IN_STOCK)?;
+    Ok(run_counted(rt, alloc, words, source, sink, blanks))
 }
 
 /// Runs the words over a stock of these blanks.
@@ -403,7 +449,7 @@ fn run_counted<R: Threads + Wait + Sync, C: Controller + Send>(
     source: &mut MemSource,
     sink: &mut MemSink,
     blanks: Vec<C>,
-) -> Ran
+) -> Counted
     requires blank { All (λ c. IsBlank (C.meaning c)) blanks.items }
     requires few { length blanks.items < 2 ^ 32 }
 {
@@ -413,29 +459,11 @@ fn run_counted<R: Threads + Wait + Sync, C: Controller + Send>(
     };
     let stock = Stock::make(blanks);
     let (status, book) = run(rt, alloc, words, source, sink, stock, &mut pace, &gate);
-    Ran {
+    Counted {
         status,
         has_book: book.is_some(),
         calls: pace.calls.saturating_add(gate.calls.load(Ordering::SeqCst)),
     }
-}
-
-/// Fails where a run ended otherwise, or called pace and gate more or less often, or a book is there without a run or
-/// is not there with one.
-fn hold_ran(alloc: Global, ran: Ran, want: &Want<'_>) -> Result<(), Fail> {
-    let Ran {
-        status,
-        has_book,
-        calls,
-    } = ran;
-    let status = in_words(alloc, status)?;
-    if calls != want.calls {
-        return Err(Fail::new("other calls of pace and gate"));
-    }
-    if has_book != (want.ended == "ok") {
-        return Err(Fail::new("a book without a run, or a run without a book"));
-    }
-    hold_told(alloc, "its words", status.as_str(), want.ended)
 }
 
 /// The words of a row; of an empty one none.

@@ -1,7 +1,7 @@
 //! Every cause, and every two causes in both orders.
 
 /// Faults of the lists.
-pub const LISTS: &str = r#"fwd active
+pub(crate) const LISTS: &str = r#"fwd active
 watch inactive
 strict -nosuch => refused nosuch unknown;;
 strict -watch => refused watch not_active;;
@@ -47,7 +47,7 @@ watch twice;; +base +watch"#;
 
 /// Faults of members: in each case the member whose fault is named comes after the other one, in the lists and by
 /// serial.
-pub const MEMBERS: &str = r#"fwd inactive
+pub(crate) const MEMBERS: &str = r#"fwd inactive
 top inactive
 0 unconfigured
 strict +fwd => refused fwd unavailable j1/position;;

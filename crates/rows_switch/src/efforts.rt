@@ -1,6 +1,6 @@
 //! Best effort: what can join joins, and what cannot is dropped with its first fault.
 
-pub const EFFORTS: &str = r#"fwd inactive
+pub(crate) const EFFORTS: &str = r#"fwd inactive
 other inactive
 speed inactive
 watch inactive

@@ -1,7 +1,7 @@
 //! Switches that name groups, over one joint.
 
 /// One joint with a pid, a trajectory above it and a mock, and a group of the first two.
-pub const GROUPED: &str = r#"version = 2
+pub(crate) const GROUPED: &str = r#"version = 2
 update_rate = 100
 cycles = 6
 [[component]]
@@ -28,7 +28,7 @@ members = ["pid", "traj"]
 
 /// Members stand in their order at the place of their group, and can stand twice. A group that is not described is no
 /// controller.
-pub const GROUPS: &str = r#"pid inactive
+pub(crate) const GROUPS: &str = r#"pid inactive
 traj inactive
 mk inactive
 strict +@motion => done;; +pid +traj
@@ -68,7 +68,7 @@ best +@motion => done dropped pid not_configured, traj unknown;;"#;
 
 /// A chain in which each controller leads the one behind it, and a group of them all: as many members as a group may
 /// have.
-pub const IN_A_CHAIN: &str = r#"version = 2
+pub(crate) const IN_A_CHAIN: &str = r#"version = 2
 update_rate = 100
 cycles = 1
 [[component]]
@@ -89,7 +89,7 @@ members = [(0..32 * "c#", )]
 "#;
 
 /// The whole chain comes, leaves and restarts by one word. Who is led comes first, and who leads leaves first.
-pub const CHAIN: &str = r#"<0..32 * c# inactive
+pub(crate) const CHAIN: &str = r#"<0..32 * c# inactive
 >strict +@all => done;; +c31 +c30 +c29 +c28 +c27 +c26 +c25 +c24 +c23 +c22 +c21 +c20 +c19 +c18 +c17 +c16 +c15 +c14 +c13\
  +c12 +c11 +c10 +c9 +c8 +c7 +c6 +c5 +c4 +c3 +c2 +c1 +c0
 best +@all +c0 => done dropped c0 twice;; +c31 +c30 +c29 +c28 +c27 +c26 +c25 +c24 +c23 +c22 +c21 +c20 +c19 +c18 +c17\

@@ -1,6 +1,6 @@
 //! Requests on one joint with seven controllers round it.
 
-pub const ONE_JOINT: &str = r#"fwd inactive
+pub(crate) const ONE_JOINT: &str = r#"fwd inactive
 strict => done;;
 best => done;;
 strict +fwd => done;; +fwd

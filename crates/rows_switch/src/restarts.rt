@@ -1,6 +1,6 @@
 //! Restarts by name and by chained mode, and chains of three.
 
-pub const RESTARTS: &str = r#"base chained
+pub(crate) const RESTARTS: &str = r#"base chained
 middle chained
 top active
 strict -middle => refused top missing_follower middle/j2/position;;

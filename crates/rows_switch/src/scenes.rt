@@ -12,7 +12,7 @@ use crate::restarts::RESTARTS;
 use cm_document::{Checked, Life, SwitchRequest};
 use cm_model::{Planned, Seen};
 use pages_calls::calls::{life_of, switch_of};
-use pages_calls::described::{described, place_of};
+use pages_calls::described::{checked_description, place_of};
 use pages_calls::robots::{ARM_AND_LEG, RISING, SEVEN, SINKING};
 use pages_cases::acts::{Player, hold_acts};
 use pages_cases::pages::halves;
@@ -65,7 +65,7 @@ impl Player for Scene {
 impl Scene {
     /// The description of this text, with nothing loaded.
     fn of(alloc: Global, text: &str) -> Result<Scene, Fail> {
-        Scene::made(alloc, described(alloc, text)?)
+        Scene::made(alloc, checked_description(alloc, text)?)
     }
 
     fn made(alloc: Global, checked: Checked) -> Result<Scene, Fail> {

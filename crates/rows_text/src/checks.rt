@@ -30,7 +30,7 @@ use std::test::Fail;
 
 /// Tells that a description is valid, or its first fault.
 #[derive(Clone, Copy)]
-pub struct Checks;
+pub(crate) struct Checks;
 
 impl Teller for Checks {
     fn told(&self, alloc: Global, text: &str) -> Result<String, Fail> {
@@ -42,7 +42,7 @@ impl Teller for Checks {
 }
 
 /// How a fault prints. A fault has many parts, and is dropped at this one place.
-pub fn in_words<F: Display + Drop>(alloc: Global, fault: F) -> Result<String, Fail> {
+pub(crate) fn in_words<F: Display + Drop>(alloc: Global, fault: F) -> Result<String, Fail> {
     let told = format!(in alloc; "{fault}");
     drop(fault);
     Ok(told?)

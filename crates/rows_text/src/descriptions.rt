@@ -15,18 +15,18 @@ use desc_text::read_description;
 use documents::{DEFAULTS, WHOLE};
 use faults::{AT_THE_TOP, OF_COMPONENTS, OF_CONTROLLERS};
 use lists::{COMPONENT, JOINT, MOCK, OF_A_COMPONENT, OF_A_JOINT, OF_A_MOCK};
-pub use read::Shows;
+pub(crate) use read::Shows;
 use std::alloc::Global;
 use std::test::Fail;
 use syntax::TEXTS;
 use values::{NAMES, QUANTITIES, STATES, TYPES, UPDATE_RATES, Vmax};
 
 /// The keys that the top table must have.
-pub const TOP: &str = "version = 1\nupdate_rate = 100\ncycles = 5\n";
+pub(crate) const TOP: &str = "version = 1\nupdate_rate = 100\ncycles = 5\n";
 
 /// Tells that a description is read, or its first fault.
 #[derive(Clone, Copy)]
-pub struct Reads;
+pub(crate) struct Reads;
 
 impl Teller for Reads {
     fn told(&self, alloc: Global, text: &str) -> Result<String, Fail> {

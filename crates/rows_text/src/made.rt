@@ -3,7 +3,7 @@
 
 use crate::scripts::CountsOfScript;
 use make_document::make_document;
-use pages_calls::described::described;
+use pages_calls::described::checked_description;
 use pages_cases::largest::Summed;
 use pages_cases::pages::{Teller, halves, hold, hold_lines, joined};
 use std::alloc::Global;
@@ -78,7 +78,7 @@ fn read_in_words(alloc: Global, made: &str) -> Result<String, Fail> {
 
 /// Fails where a description is not read or not valid.
 fn hold_valid(alloc: Global, description: &str) -> Result<(), Fail> {
-    drop(described(alloc, description)?);
+    drop(checked_description(alloc, description)?);
     Ok(())
 }
 

@@ -11,7 +11,7 @@ use lines::{BYTES, CALLS_ON_NAMES, POINTS, SWITCHES, VALUES, WHOLE_NUMBERS};
 use long::{CALLS_AND_TURNS, LONG_LINES, SIZES_OF_CALLS};
 use pages_cases::pages::{Teller, hold, hold_lines};
 use printed::PRINTED;
-pub use printed::Prints;
+pub(crate) use printed::Prints;
 use script_text::{read_script, read_script_with};
 use sessions::{FORMS_FURTHER_BELOW, ONE_FAULT_COUNTS, SCHEDULES, SESSIONS};
 use std::alloc::Global;
@@ -162,7 +162,7 @@ fn one_call(told: &str) -> &str {
 /// Tells how many sessions a script has where every form is accepted, and how many calls and turns; or the first bad
 /// line.
 #[derive(Clone, Copy)]
-pub struct CountsOfScript;
+pub(crate) struct CountsOfScript;
 
 impl Teller for CountsOfScript {
     fn told(&self, alloc: Global, text: &str) -> Result<String, Fail> {

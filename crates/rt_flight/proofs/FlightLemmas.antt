@@ -1,7 +1,7 @@
 -- What a flight shows of itself, and what it keeps, as its parts are called.
 use Rattle.std.proofs.Common.{◌≡◌, ℕ, ◌+◌, ◌<◌, ◌≤◌, Bool, true, false, List, [], ◌∷◌, ◌++◌, length, map}
 use Rattle.std.proofs.Common.{take, drop, Option, Some, None, refl, sym, ap, ap₂, subst, ◌∙◌, arith}
-use Rattle.std.specs.Prelude.{vec_len, is_some, if◌then◌else◌, IfSome, IsSomeAnd}
+use Rattle.std.specs.Prelude.{vec_len, is_some, IfSome, IsSomeAnd}
 use Rattle.std.specs.List.{AllByRecursion}
 use Rattle.std.proofs.lemmas.List.{length-append, length-drop, take-append-drop, take-append-le}
 use Rattle.std.proofs.lemmas.Option.{same_Some}

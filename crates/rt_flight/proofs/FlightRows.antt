@@ -1,5 +1,6 @@
 -- Worked rows of the turns of cells, computed from the definitions alone: what is written down here is by hand.
 use Rattle.std.proofs.Common.{◌≡◌, ℕ, true, false, List, [], ◌∷◌, map, pos, Option, Some, None, refl}
+use Rattle.std.specs.Prelude.{codes}
 use Rattle.fixed_num.specs.declared.value.Value.{Value}
 use Rattle.fixed_num.specs.declared.value.Value.TheVariants.{Unset, Num}
 use Rattle.cm_document.specs.declared.call.Mail.{Mail}
@@ -38,6 +39,7 @@ round number failed = record {
     exporters = [];
   };
   related = record {
+    names = codes "top" ∷ codes "low" ∷ [];
     leaders = [] ∷ (0 ∷ []) ∷ [];
     followers = (1 ∷ []) ∷ [] ∷ [];
     odds = [] ∷ [] ∷ [];

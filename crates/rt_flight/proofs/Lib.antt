@@ -1,4 +1,5 @@
 pub mod FitLemmas
+pub mod FlagLemmas
 pub mod CellLemmas
 pub mod TurnLemmas
 pub mod LayerLemmas

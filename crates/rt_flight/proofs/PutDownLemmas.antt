@@ -15,7 +15,8 @@ use Rattle.sequence.proofs.ListLemmas.{all_append, all_push, any_map}
 use Rattle.switch_plan.specs.Relations.{Related}
 use Rattle.rt_flight.specs.Calls.Depths.{PutsDepths, StartsElsewhere}
 use Rattle.rt_flight.specs.Cells.{CellFacts, precedes_in, NonePrecedes}
-use Rattle.rt_flight.specs.Depths.{depths_of, places_in, is_led_by, AreDeepened, IsLayered, RanksDepths, StandBy}
+use Rattle.rt_flight.specs.Depths.{depths_of, places_in, is_led_by, AreDeepened, IsFlagged}
+use Rattle.rt_flight.specs.Depths.{IsLayered, RanksDepths, StandBy}
 use Rattle.rt_flight.proofs.RankLemmas.{all_weaker, deeper_if_led, no_deeper, same_if_not_led}
 use Rattle.rt_flight.proofs.TurnLemmas.{all_parts}
 
@@ -65,18 +66,23 @@ deepened_map {A} f over (c ∷ cs) (d ∷ ds) same =
 
 -- ---- Who leads
 
+-- the places of the cells from one index up to another
+pub range_places : (cells : List CellFacts) (first i : ℕ) → first ≤ i
+    → places_in (slice_range cells first i) ≡ drop first (take i (places_in cells))
+range_places cells first i within =
+    let upto : first + (i - first) ≡ i = omega (arith, within) in
+    sym (take-map (λ (c : CellFacts). c.workspace.place) (i - first) (drop first cells))
+    ∙ ap (take (i - first)) (sym (drop-map (λ (c : CellFacts). c.workspace.place) first cells))
+    ∙ sym (drop-take first (i - first) (places_in cells)) ∙ ap (λ (k : ℕ). drop first (take k (places_in cells))) upto
+
 -- to look among the cells for one that precedes another is to look among their places
 pub led_range : (related : Related) (cells : List CellFacts) (first i : ℕ) (item : CellFacts) → first ≤ i
     → list_any (λ d. precedes_in related d item) (slice_range cells first i)
     ≡ is_led_by related (drop first (take i (places_in cells))) item.workspace.place
 led_range related cells first i item within =
-    let upto : first + (i - first) ≡ i = omega (arith, within) in
     sym (any_map (is_listed (linked related.leaders item.workspace.place)) (λ (c : CellFacts). c.workspace.place)
     (slice_range cells first i))
-    ∙ ap (λ (ps : List ℕ). is_led_by related ps item.workspace.place)
-    (sym (take-map (λ (c : CellFacts). c.workspace.place) (i - first) (drop first cells))
-    ∙ ap (take (i - first)) (sym (drop-map (λ (c : CellFacts). c.workspace.place) first cells))
-    ∙ sym (drop-take first (i - first) (places_in cells)) ∙ ap (λ (k : ℕ). drop first (take k (places_in cells))) upto)
+    ∙ ap (λ (ps : List ℕ). is_led_by related ps item.workspace.place) (range_places cells first i within)
 
 pub place_of : (cells : List CellFacts) (i : ℕ) (item : CellFacts) → i < length cells
     → item ≡ slice_index_or cells i item → item.workspace.place ≡ slice_index_or (places_in cells) i 0
@@ -355,6 +361,43 @@ module _ (related : Related) (began cells : List CellFacts) (first i depths : �
               so_far.first_within (so_far.put ranked ranks) next next_place
               before.0 none.1 (omega (arith, next_depth, old.1.1, before.1));
         }))
+
+    -- and so do the flags of the depth, in which the cell comes to stand
+    pub flags_go_on : (flags flags' : List Bool) (place : ℕ) → place ≡ item.workspace.place
+        → ((qs : List ℕ) → IsFlagged flags qs → IsFlagged flags' (qs ++ place ∷ []))
+        → (IsFlagged flags [] × (first' ≡ i))
+        ⊎ (IsFlagged flags (drop first (take i (places_in cells))) × (first' ≡ first))
+        → IsFlagged flags' (drop first' (take (i + 1) (places_in (slice_set cells i next))))
+    flags_go_on flags flags' place is_place insert cases =
+        let inside : i < length ps =
+        omega (
+          arith,
+          within,
+          length-map cells (λ (c : CellFacts). c.workspace.place),
+          ap (λ (ns : List ℕ). length ns) same_places,
+        ) in
+        let is_q : place ≡ q =
+        is_place ∙ place_of cells i item within is_item ∙ ap (λ (ns : List ℕ). slice_index_or ns i 0) same_places in
+        let more : take (i + 1) (places_in (slice_set cells i next)) ≡ take i ps ++ place ∷ [] =
+        ap (take (i + 1)) (deepened_places began (slice_set cells i next) next_same)
+        ∙ take_more ps i q inside ∙ ap (λ (n : ℕ). take i ps ++ n ∷ []) (q_itself ∙ sym is_q) in
+        let long : length (take i ps) ≡ i = length-take-le i ps (omega (arith, inside)) in
+        elim cases [
+          | inl new ↦
+              subst (IsFlagged flags')
+              (sym (ap (λ (k : ℕ). drop k (take (i + 1) (places_in (slice_set cells i next)))) new.1
+              ∙ ap (drop i) more
+              ∙ ap (λ (k : ℕ). drop k (take i ps ++ place ∷ [])) (sym long)
+              ∙ drop-append_seam (take i ps) (place ∷ [])))
+              (insert [] new.0)
+          | inr old ↦
+              subst (IsFlagged flags')
+              (sym (ap (λ (k : ℕ). drop k (take (i + 1) (places_in (slice_set cells i next)))) old.1
+              ∙ ap (drop first) more
+              ∙ drop-append-le first (take i ps) (place ∷ []) (omega (arith, so_far.first_within, long))))
+              (insert (drop first (take i ps))
+              (subst (λ (ns : List ℕ). IsFlagged flags (drop first (take i ns))) same_places old.0))
+        ]
 
   -- some depth has begun by then
   pub some_depth : (first' depths' : ℕ)

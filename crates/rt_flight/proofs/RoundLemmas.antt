@@ -8,12 +8,11 @@ use Rattle.std.proofs.Math.Seq.{drop-append_seam, take-append_seam}
 use Rattle.cm_storage.specs.declared.record.FailedPart.{FailedPart}
 use Rattle.cm_storage.specs.declared.record_room.RecordRoom.{RecordRoom}
 use Rattle.rt_flight.specs.Calls.Cells.{CanTurn}
-use Rattle.rt_flight.specs.Cells.{CellFacts, flying}
+use Rattle.rt_flight.specs.Cells.{CellFacts}
 use Rattle.rt_flight.specs.Depths.{depths_of}
 use Rattle.rt_flight.specs.Progress.{failed_in_room, round_in}
 use Rattle.rt_flight.specs.UnderWay.{HasBegun, HasRoomFor, HasTurned, IsTurning, TellsBut}
 use Rattle.rt_flight.specs.declared.context.CycleContext.{CycleContext}
-use Rattle.rt_flight.proofs.LayerLemmas.{together}
 
 -- ---- Lists
 

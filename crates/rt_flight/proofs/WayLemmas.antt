@@ -15,7 +15,7 @@ use Rattle.rt_flight.specs.Calls.Depths.{StartsElsewhere}
 use Rattle.rt_flight.specs.Calls.Parts.{waiting_of, with_waiting, HaveMadeSteps}
 use Rattle.rt_flight.specs.Calls.Turns.{Scatters, HaveAllTurned}
 use Rattle.rt_flight.specs.Cells.{CellFacts, Flying, Post, all_flown, all_numbers, all_outs}
-use Rattle.rt_flight.specs.Cells.{all_put, cell_put, cell_read, cell_run, cells_after, flying}
+use Rattle.rt_flight.specs.Cells.{all_put, cell_put, cell_read, cell_run, cells_after}
 use Rattle.rt_flight.specs.Cells.{post_of, CanFly, CanMakeStep, CanStep, NonePrecedes, TellsApart}
 use Rattle.rt_flight.specs.Depths.{depths_of, IsLayered}
 use Rattle.rt_flight.specs.Progress.{Progress, flying_in, round_in}

@@ -1,5 +1,6 @@
 -- The depths of the cells of a flight: how deep each stands among the running controllers, and how many there are.
-use Rattle.std.specs.Prelude.{◌≡◌, ℕ, suc, ◌+◌, ◌<◌, ◌≤◌, ◌^◌, max, Bool, true, false, List, [], ◌∷◌, map}
+use Rattle.std.specs.Prelude.{◌≡◌, ℕ, suc, ◌+◌, ◌<◌, ◌≤◌, ◌^◌, ◌==◌, max, Bool, true, false}
+use Rattle.std.specs.Prelude.{List, [], ◌∷◌, map, length, slice_index_or}
 use Rattle.std.specs.List.{AllByRecursion, Contains, list_any}
 use Rattle.cm_model.specs.Components.{is_listed}
 use Rattle.chain_order.specs.Links.{linked}
@@ -23,6 +24,10 @@ abbrev pub AreDeepened : List CellFacts → List CellFacts → Type 0
 AreDeepened [] [] = Unit {0}
 AreDeepened (c ∷ cs) (d ∷ ds) = (d ≡ record c { depth = d.depth }) × AreDeepened cs ds
 AreDeepened _ _ = ⊥
+
+-- Of each place that has one of these flags, the flag says whether it is one of these places.
+abbrev pub IsFlagged : List Bool → List ℕ → Type 0
+IsFlagged flags ps = (p : ℕ) → p < length flags → slice_index_or flags p false ≡ list_any (λ q. p == q) ps
 
 -- ---- Where depths come from
 

@@ -9,7 +9,9 @@ ghost use Rattle.cm_slots.specs.Updates.{IsTimely};
 ghost use Rattle.rt_flight.specs.Cells.{flying, flying_put, cell_read, cell_run, cell_put, cell_stepped};
 ghost use Rattle.rt_flight.specs.Cells.{step_at, post_of, numbers_of, precedes_in, CanFly, CanMakeStep};
 ghost use Rattle.rt_flight.specs.Calls.Cells.{CanPut, LeavesPut};
+ghost use Rattle.rt_flight.specs.Depths.{places_in, IsFlagged};
 
+use crate::layer::Layer;
 use crate::round::Round;
 use crate::running::Running;
 use crate::workspace::Workspace;
@@ -175,27 +177,41 @@ impl<C: Controller> Cell<C> {
     }
 
     /// Whether a controller that precedes it stands in one of these cells.
-    pub(crate) fn follows(&self, cells: &[Cell<C>], relations: &Relations) -> bool
-        requires { self.now.workspace.place < length relations.now.leaders }
+    pub(crate) fn follows(&self, cells: &[Cell<C>], layer: &Layer, relations: &Relations) -> bool
+        requires layer { IsFlagged layer.now.flags (places_in cells.now) }
+        requires related { self.now.workspace.place < length relations.now.leaders }
         ensures { result ≡ list_any (λ c. precedes_in relations.now c self.now) cells.now }
     {
         let leaders = relations.leaders().row(self.workspace.place());
-        one_stands_in(cells, leaders)
+        one_stands_in(cells, layer, leaders)
+    }
+
+    /// Its place in the description.
+    pub(crate) fn place(&self) -> u32
+        ensures { result ≡ self.now.workspace.place }
+    {
+        self.workspace.place()
     }
 }
 
-/// Whether the controller at one of these places of the description stands in one of these cells.
-fn one_stands_in<C: Controller>(cells: &[Cell<C>], places: &[u32]) -> bool
+/// Whether the controller at one of these places of the description stands in one of these cells, which are a layer.
+fn one_stands_in<C: Controller>(cells: &[Cell<C>], layer: &Layer, places: &[u32]) -> bool
+    requires { IsFlagged layer.now.flags (places_in cells.now) }
     ensures { result ≡ list_any (λ place. list_any (λ c. place == c.workspace.place) cells.now) places.now }
 {
-    places.iter().any(|place| stands_in(cells, *place))
+    places.iter().any(|place| stands_in(cells, layer, *place))
 }
 
-/// Whether the controller at this place of the description stands in one of these cells.
-fn stands_in<C: Controller>(cells: &[Cell<C>], place: u32) -> bool
+/// Whether the controller at this place of the description stands in one of these cells, which are a layer. It has a
+/// flag in the layer, because a description has no more places than flags; else it is looked for.
+fn stands_in<C: Controller>(cells: &[Cell<C>], layer: &Layer, place: u32) -> bool
+    requires { IsFlagged layer.now.flags (places_in cells.now) }
     ensures { result ≡ list_any (λ c. place == c.workspace.place) cells.now }
 {
-    cells.iter().any(|cell| place == cell.workspace.place())
+    match layer.flag(place) {
+        Some(stands) => stands,
+        None => cells.iter().any(|cell| place == cell.place()),
+    }
 }
 
 /// The serial of a controller whose update failed is told.

@@ -15,6 +15,7 @@ mod context;
 mod depths;
 mod flight;
 pub mod laws;
+mod layer;
 mod robot;
 mod round;
 mod running;

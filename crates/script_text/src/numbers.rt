@@ -11,7 +11,7 @@ use cm_document::MOST_DIGITS_OF_WHOLE;
 use fixed_num::Fx;
 
 /// The whole number that a word writes, of one digit at least and no more than there may be.
-pub fn whole(word: &[u8]) -> Option<u32>
+pub(crate) fn whole(word: &[u8]) -> Option<u32>
     ensures { result ≡ whole_word word.now }
 {
     if word.is_empty() || word.len() > MOST_DIGITS_OF_WHOLE || !are_digits(word) {

@@ -1,7 +1,8 @@
 -- What one more controller comes to.
-use Rattle.std.proofs.Common.{◌≡◌, ℕ, suc, ◌+◌, ◌<◌, List, [], ◌∷◌, ◌++◌, length}
-use Rattle.std.proofs.Common.{get_or, drop, Some, None, sym, ◌∙◌, ap, ap₂}
-use Rattle.std.specs.Prelude.{◌&&◌, not}
+use Rattle.std.proofs.Common.{◌≡◌, ℕ, suc, ◌+◌, ◌<◌, Bool, cond, List, [], ◌∷◌, ◌++◌, length}
+use Rattle.std.proofs.Common.{get_or, drop, Some, None, inl, inr, sym, ◌∙◌, ap, ap₂}
+use Rattle.std.specs.Prelude.{◌&&◌, ◌||◌, ◌==◌, not, if◌then◌else◌}
+use Rattle.std.proofs.lemmas.Bool.{cases_Bool, eqb-true}
 use mathlib.Core.Path.{fun_ext}
 use Rattle.std.specs.List.{All}
 use Rattle.std.proofs.lemmas.List.{drop_more}
@@ -37,6 +38,17 @@ pub join-some : (scene : Scene) (on set tried : Places) (dropped : List Dropped)
 join-some scene on set tried dropped m c is some =
     let before : Joined = record { set = set; dropped = dropped } in
     ap (joined_with m.place (described scene m.place).name before) (ap (λ t. fault scene t on m.place) (sym is) ∙ some)
+
+-- a set with one more, where that one is put back as it was before, is as it was
+pub put_back : (set tried after : Places) (p : ℕ) (was : Bool) → was ≡ set p → tried ≡ with_one p set
+    → after ≡ (λ q. if p == q then was else tried q) → after ≡ set
+put_back set tried after p was before more back = back ∙ fun_ext at
+  where
+    at : (q : ℕ) → (if p == q then was else tried q) ≡ set q
+    at q = elim (cases_Bool (p == q)) [
+      | inl here ↦ ap (λ b. cond b was (tried q)) here ∙ before ∙ ap set (eqb-true p q here)
+      | inr other ↦ ap (λ b. cond b was (tried q)) other ∙ ap (λ (t : Places). t q) more ∙ ap (λ b. b || set q) other
+    ]
 
 -- heights that stand in a list order those whose places it has
 pub by_heights : (scene : Scene) (heights : List ℕ) (ms : List Member)

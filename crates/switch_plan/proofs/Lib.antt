@@ -8,6 +8,7 @@ pub mod ElementLemmas
 pub mod DecisionLemmas
 pub mod CauseLemmas
 pub mod MetLemmas
+pub mod NameLemmas
 pub mod LeavingLemmas
 pub mod MaximalLemmas
 pub mod ClearLemmas

@@ -114,10 +114,9 @@ module _ (picks : List Pick) (i : ℕ) (pick : Pick) (name : List ℕ) (within :
         ∙ ap (faulty fault so_far) (sym left_group)
 
 -- one more was dropped, and so it goes on
-pub dropped_more : (old new later : List Dropped) (d named : Dropped) → new ≡ old ++ d ∷ [] → d ≡ named
-    → new ++ later ≡ old ++ named ∷ later
-dropped_more old new later d named pushed is =
-    ap (λ l. l ++ later) pushed ∙ append_assoc old (d ∷ []) later ∙ ap (λ x. old ++ x ∷ later) is
+pub dropped_more : (old new later : List Dropped) (d : Dropped) → new ≡ old ++ d ∷ []
+    → new ++ later ≡ old ++ d ∷ later
+dropped_more old new later d pushed = ap (λ l. l ++ later) pushed ∙ append_assoc old (d ∷ []) later
 
 -- and one more was found
 pub found_more : (scene : Scene) (old new : List Member) (name : List ℕ) (names : List (List ℕ))

@@ -1,5 +1,5 @@
 -- Which described controllers have to do with which, and with which components, by place.
-use Rattle.std.specs.Prelude.{ℕ, Bool, not, ◌&&◌, ◌||◌, ◌==◌, List, ◌++◌, length, filter_map, slice_index_or}
+use Rattle.std.specs.Prelude.{ℕ, Bool, not, ◌&&◌, ◌||◌, ◌==◌, List, ◌++◌, length, map, filter_map, slice_index_or}
 use Rattle.std.specs.List.{list_any}
 use Rattle.cm_document.specs.declared.description.CtlDesc.{CtlDesc}
 use Rattle.cm_document.specs.declared.description.Description.{Description}
@@ -29,9 +29,10 @@ components_at d p =
     filter_map (component_with d.components) (controller_at d.controllers p).claims
     ++ filter_map (component_with d.components) (controller_at d.controllers p).reads
 
--- for each controller, by place: those that precede it, those that it precedes, those that it is at odds with, its
--- components, and its height
+-- for each controller, by place: its name, those that precede it, those that it precedes, those that it is at odds
+-- with, its components, and its height
 pub record Related : Type 0 where
+  pub names : List (List ℕ)
   pub leaders : List (List ℕ)
   pub followers : List (List ℕ)
   pub odds : List (List ℕ)
@@ -41,6 +42,7 @@ pub record Related : Type 0 where
 -- those of a description
 abbrev pub relations_of : Description → Related
 relations_of d = record {
+  names = map (λ c. c.name) d.controllers;
   leaders = leaders_of d.controllers;
   followers = links_of d.controllers;
   odds = odds_of d.controllers;

@@ -18,7 +18,7 @@ use crate::changes::{Change, done};
 use crate::clear::may_join;
 use crate::faults::{Proposal, fault};
 use crate::interfaces::claims;
-use crate::lists::sifted;
+use crate::lists::{drop_for, sifted};
 use crate::setting::{Setting, order};
 use crate::view::{View, controllers, described};
 use chain_order::{PlaceSet, by_rank, heights, is_chained};
@@ -36,7 +36,7 @@ pub fn best(alloc: Global, setting: &Setting, off: &[Pick], on: &[Pick]) -> Resu
         ≡ planned (set_scene setting.now) (best (set_scene setting.now) off.now on.now)) }
 {
     let mut dropped = Vec::new(alloc);
-    let asked = sifted(alloc, &setting.view, None, off, &mut dropped)?;
+    let asked = sifted(alloc, setting, None, off, &mut dropped)?;
     let plan = best_asked(alloc, setting, &asked, dropped, on)?;
     Ok(plan)
 }
@@ -77,7 +77,7 @@ fn best_leaving(
         (best_leaving (set_scene setting.now) (set_of leaving.now) dropped.items on.now)) }
 {
     let mut dropped = dropped;
-    let coming = sifted(alloc, &setting.view, Some(leaving), on, &mut dropped)?;
+    let coming = sifted(alloc, setting, Some(leaving), on, &mut dropped)?;
     let set = joined(alloc, setting, leaving, &coming, &mut dropped)?;
     let again = leaving.both(alloc, &set)?;
     let change = Change {
@@ -246,7 +246,7 @@ fn joined(
     let ordered = by_height(alloc, setting, coming)?;
     let mut set = setting.active.without(alloc, leaving)?;
     for member in &ordered {
-        set = join(alloc, setting, &on, set, member, dropped)?;
+        join(alloc, setting, &on, &mut set, member, dropped)?;
     }
     Ok(set)
 }
@@ -268,40 +268,58 @@ fn by_height(alloc: Global, setting: &Setting, coming: &[Member]) -> Result<Vec<
     Ok(ordered)
 }
 
-/// One more where it has no fault beside those that are active by then; else it is dropped. Where the relations show at
-/// once that it has none, no order is worked out.
+/// One more joins where it has no fault beside those that are active by then; else it is dropped, and the set is as it
+/// was. Where the relations show at once that it has none, no order is worked out.
 fn join(
     alloc: Global,
     setting: &Setting,
     on: &PlaceSet,
-    set: PlaceSet,
+    set: &mut PlaceSet,
     member: &Member,
     dropped: &mut Vec<Dropped>,
-) -> Result<PlaceSet, Memory>
-    requires { CanJoin setting.now member.now set }
-    ensures length { IfOk result (λ after. HasFlags (set_scene setting.now) after) }
-    ensures joined { IfOk result (λ after. record { set = set_of after; dropped = dropped.new.items }
+) -> Result<(), Memory>
+    requires { CanJoin setting.now member.now set.old }
+    ensures length { OnOk result (HasFlags (set_scene setting.now) set.new) }
+    ensures joined { OnOk result (record { set = set_of set.new; dropped = dropped.new.items }
         ≡ join (set_scene setting.now) (set_of on.now)
-        (record { set = set_of set; dropped = dropped.old.items }) member.now) }
+        (record { set = set_of set.old; dropped = dropped.old.items }) member.now) }
 {
-    let tried = set.with(alloc, member.place)?;
-    if is_seen_free(setting, &tried, member.place) {
-        return Ok(tried);
+    let was_member = set.has(member.place);
+    set.insert(member.place);
+    if is_seen_free(setting, set, member.place) {
+        return Ok(());
     }
-    let members = order(alloc, setting, &tried)?;
+    let Some(cause) = fault_beside(alloc, setting, on, set, member.place)? else {
+        return Ok(());
+    };
+    set.put(member.place, was_member);
+    drop_for(&described(&setting.view, member.place).name, cause, dropped)?;
+    Ok(())
+}
+
+/// What speaks against a controller in a set of which these are to be activated.
+fn fault_beside(
+    alloc: Global,
+    setting: &Setting,
+    on: &PlaceSet,
+    set: &PlaceSet,
+    place: u32,
+) -> Result<Option<Cause>, Memory>
+    requires setting { IsSetting setting.now }
+    requires flags { HasFlags (set_scene setting.now) set.now }
+    requires within { IsPlace (set_scene setting.now) place }
+    ensures { IfOk result (λ cause. cause ≡ fault (set_scene setting.now) (set_of set.now) (set_of on.now) place) }
+{
+    let members = order(alloc, setting, set)?;
     let proposal = Proposal {
         alloc,
         view: setting.view,
-        set: &tried,
+        set,
         on,
         order: &members,
     };
-    let Some(cause) = fault(&proposal, member.place)? else {
-        return Ok(tried);
-    };
-    let name = described(&setting.view, member.place).name.clone()?;
-    dropped.push(Dropped { name, cause })?;
-    Ok(set)
+    let cause = fault(&proposal, place)?;
+    Ok(cause)
 }
 
 /// Whether the relations are known and show at once that a controller has no fault in a set.

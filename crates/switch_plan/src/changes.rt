@@ -1,6 +1,6 @@
 //! What a decision changes: which controllers are deactivated and activated, in which order.
 
-ghost use Rattle.std.specs.Prelude.{◌≡◌, ◌<◌, ◌^◌, not, ◌&&◌, ◌||◌, [], length, map, filter, reverse, IfOk};
+ghost use Rattle.std.specs.Prelude.{◌≡◌, ◌<◌, ◌^◌, ◌||◌, [], length, map, filter, reverse, IfOk};
 ghost use Rattle.cm_model.specs.Order.{set_of};
 ghost use Rattle.cm_model.specs.Scene.{controllers_in, active, is_chained_in, member, order};
 ghost use Rattle.cm_model.specs.Switches.{restarts, is_stopped, is_started, off_list, on_list, planned, differ, done};
@@ -115,11 +115,7 @@ fn is_stopped(change: &Change, place: u32) -> bool
     requires within { IsPlace (change_scene change.now) place }
     ensures { result ≡ is_stopped (change_scene change.now) (after change.now) (again change.now) place }
 {
-    moves(
-        change.setting.active.has(place),
-        change.set.has(place),
-        restarts(change, place),
-    )
+    change.setting.active.has(place) && (!change.set.has(place) || restarts(change, place))
 }
 
 /// Whether a controller is activated: it is a member, and not active or restarts.
@@ -128,18 +124,7 @@ fn is_started(change: &Change, place: u32) -> bool
     requires within { IsPlace (change_scene change.now) place }
     ensures { result ≡ is_started (change_scene change.now) (after change.now) (again change.now) place }
 {
-    moves(
-        change.set.has(place),
-        change.setting.active.has(place),
-        restarts(change, place),
-    )
-}
-
-/// Whether what is in the one set moves: it is not in the other, or restarts.
-fn moves(one: bool, other: bool, restarts: bool) -> bool
-    ensures { result ≡ (one && (not other || restarts)) }
-{
-    one && (!other || restarts)
+    change.set.has(place) && (!change.setting.active.has(place) || restarts(change, place))
 }
 
 /// Whether a controller restarts where it is active and stays so: it is named for that, or its chained mode changes.

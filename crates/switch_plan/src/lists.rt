@@ -4,14 +4,15 @@ ghost use Rattle.std.specs.Prelude.{◌≡◌, ◌++◌, [], ◌∷◌, ◌<◌,
 ghost use Rattle.cm_document.specs.Picks.{picked_names};
 ghost use Rattle.cm_model.specs.Scene.{controllers_in, loaded_of, loaded_all};
 ghost use Rattle.cm_model.specs.Switches.{with_name, off_cause, on_cause};
-ghost use Rattle.cm_model.specs.declared.cause.Cause.TheVariants as reasons;
 ghost use Rattle.cm_model.specs.BestEffort.{faulty, faultless};
 ghost use Rattle.cm_model.specs.Order.{set_of};
 ghost use Rattle.switch_plan.specs.Calls.Members.{IsLoadedAs, HaveMet};
-ghost use Rattle.switch_plan.specs.View.{scene_of, IsView, HavePlaces};
+ghost use Rattle.switch_plan.specs.Settings.{set_scene, IsSetting};
+ghost use Rattle.switch_plan.specs.View.{scene_of, HavePlaces};
 ghost use Rattle.switch_plan.specs.Lists.{list_fault, fault_met, first_dropped, IsListed};
 
 use crate::members::{is_configured, is_running, loaded_of, push_seen};
+use crate::setting::Setting;
 use crate::view::{View, controllers};
 use chain_order::PlaceSet;
 use cm_document::Pick;
@@ -101,29 +102,28 @@ fn on_cause(leaving: &PlaceSet, twice: bool, seen: &Seen) -> Option<Cause>
     }
 }
 
-/// The name of a group that is not described, as it is told.
-fn no_group(name: &Name) -> Result<Dropped, Memory>
-    ensures { IfOk result (λ dropped. dropped ≡ with_name name.now reasons.NoGroup) }
+/// Drops a name for a cause.
+pub fn drop_for(name: &Name, cause: Cause, dropped: &mut Vec<Dropped>) -> Result<(), Memory>
+    ensures { OnOk result (dropped.new.items ≡ dropped.old.items ++ with_name name.now cause ∷ []) }
 {
-    Ok(Dropped {
-        name: name.clone()?,
-        cause: Cause::NoGroup,
-    })
+    let name = name.clone()?;
+    dropped.push(Dropped { name, cause })?;
+    Ok(())
 }
 
 /// The controllers of a flat list, or the first of its names that something speaks against.
 pub fn look_through(
     alloc: Global,
-    view: &View,
+    setting: &Setting,
     leaving: Option<&PlaceSet>,
     picks: &[Pick],
 ) -> Result<Listed, Memory>
-    requires { IsView view.now }
-    ensures { IfOk result (IsListed (scene_of view.now)
-        (list_fault (scene_of view.now) (option_map (λ set. set.now) leaving.entry)) picks.now) }
+    requires { IsSetting setting.now }
+    ensures { IfOk result (IsListed (set_scene setting.now)
+        (list_fault (set_scene setting.now) (option_map (λ set. set.now) leaving.entry)) picks.now) }
 {
     let mut dropped = Vec::new(alloc);
-    let members = sifted(alloc, view, leaving, picks, &mut dropped)?;
+    let members = sifted(alloc, setting, leaving, picks, &mut dropped)?;
     match first_dropped(dropped) {
         Some(because) => Ok(Listed::Faulty(because)),
         None => Ok(Listed::Faultless(members)),
@@ -144,35 +144,33 @@ fn first_dropped(mut dropped: Vec<Dropped>) -> Option<Dropped>
 /// The controllers of a flat list without its faults, which are dropped. Each controller is looked up once.
 pub fn sifted(
     alloc: Global,
-    view: &View,
+    setting: &Setting,
     leaving: Option<&PlaceSet>,
     picks: &[Pick],
     dropped: &mut Vec<Dropped>,
 ) -> Result<Vec<Member>, Memory>
-    requires { IsView view.now }
-    ensures within { IfOk result (λ list. HavePlaces (scene_of view.now) list.items) }
-    ensures members { IfOk result (λ list. list.items ≡ loaded_all (scene_of view.now)
-        (faultless (list_fault (scene_of view.now) (option_map (λ set. set.now) leaving.entry)) [] picks.now)) }
+    requires { IsSetting setting.now }
+    ensures within { IfOk result (λ list. HavePlaces (set_scene setting.now) list.items) }
+    ensures members { IfOk result (λ list. list.items ≡ loaded_all (set_scene setting.now)
+        (faultless (list_fault (set_scene setting.now) (option_map (λ set. set.now) leaving.entry)) [] picks.now)) }
     ensures dropped { OnOk result (dropped.new.items ≡ dropped.old.items
-        ++ faulty (list_fault (scene_of view.now) (option_map (λ set. set.now) leaving.entry)) [] picks.now) }
+        ++ faulty (list_fault (set_scene setting.now) (option_map (λ set. set.now) leaving.entry)) [] picks.now) }
 {
+    let view = &setting.view;
     let mut list = Vec::with_capacity(alloc, picks.len().min(view.loaded.len()))?;
     let mut met = PlaceSet::none(alloc, controllers(view).len())?;
     for (index, pick) in picks.iter().enumerate() {
         let name = match pick {
             Pick::One(name) => name,
             Pick::Group(name) => {
-                dropped.push(no_group(name)?)?;
+                drop_for(name, Cause::NoGroup, dropped)?;
                 continue;
             }
         };
         let before = &picks[..index];
-        let seen = loaded_of(view, name);
+        let seen = loaded_of(setting, name);
         match list_fault(view, leaving, before, &met, name, seen) {
-            Some(cause) => {
-                let name = name.clone()?;
-                dropped.push(Dropped { name, cause })?;
-            }
+            Some(cause) => drop_for(name, cause, dropped)?,
             None => push_seen(view, name, seen, &mut list)?,
         }
         meet(view, before, name, seen, &mut met);

@@ -6,8 +6,12 @@ ghost use Rattle.std.specs.List.{list_any};
 ghost use Rattle.cm_model.specs.Scene.{controllers_in, is_running, is_configured};
 ghost use Rattle.cm_model.specs.Scene.{is_ready, loaded_of, loaded_all, member};
 ghost use Rattle.switch_plan.specs.Calls.Members.{IsLoadedAs};
+ghost use Rattle.switch_plan.specs.Relations.{relations_of};
+ghost use Rattle.switch_plan.specs.Settings.{set_scene, IsSetting};
 ghost use Rattle.switch_plan.specs.View.{scene_of, IsView, IsPlace, HavePlaces};
 
+use crate::relations::Relations;
+use crate::setting::Setting;
 use crate::view::{View, described};
 use cm_document::Life;
 use cm_model::{Member, Seen};
@@ -34,8 +38,46 @@ pub fn is_configured(life: Life) -> bool
     }
 }
 
-/// The loaded controller of this name.
-pub fn loaded_of(view: &View, name: &Name) -> Option<Seen>
+/// The loaded controller of this name. Where the relations are known they tell its place, and no loaded controller is
+/// asked for its name.
+pub fn loaded_of(setting: &Setting, name: &Name) -> Option<Seen>
+    requires { IsSetting setting.now }
+    ensures within { IfSome result (λ l. IsPlace (set_scene setting.now) l.place) }
+    ensures found { result ≡ loaded_of (set_scene setting.now) name.now }
+{
+    match setting.relations {
+        Some(relations) => loaded_as_placed(&setting.view, relations, name),
+        None => loaded_as_called(&setting.view, name),
+    }
+}
+
+/// The loaded controller at the place that this name has.
+fn loaded_as_placed(view: &View, relations: &Relations, name: &Name) -> Option<Seen>
+    requires view { IsView view.now }
+    requires relations { relations.now ≡ relations_of view.now.checked.now }
+    ensures within { IfSome result (λ l. IsPlace (scene_of view.now) l.place) }
+    ensures found { result ≡ loaded_of (scene_of view.now) name.now }
+{
+    let place = relations.place_of(name)?;
+    loaded_at(view, place)
+}
+
+/// The loaded controller at a place.
+fn loaded_at(view: &View, place: usize) -> Option<Seen>
+    requires { IsView view.now }
+    ensures within { IfSome result (λ l. IsPlace (scene_of view.now) l.place) }
+    ensures found { result ≡ find (λ l. l.place == place) (scene_of view.now).loaded }
+{
+    for seen in view.loaded {
+        if seen.place as usize == place {
+            return Some(*seen);
+        }
+    }
+    None
+}
+
+/// The first loaded controller that is called so.
+fn loaded_as_called(view: &View, name: &Name) -> Option<Seen>
     requires { IsView view.now }
     ensures within { IfSome result (λ l. IsPlace (scene_of view.now) l.place) }
     ensures found { result ≡ loaded_of (scene_of view.now) name.now }

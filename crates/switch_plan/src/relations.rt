@@ -1,8 +1,10 @@
 //! Which controllers have to do with which, worked out of a description once: a request then looks up no name of an
-//! interface.
+//! interface, and finds the place of a controller's name at once.
 
-ghost use Rattle.std.specs.Prelude.{◌≡◌, ◌<◌, ◌^◌, ◌++◌, not, ◌&&◌, ◌||◌, ◌==◌, length, filter_map, IfOk, OnOk};
-ghost use Rattle.std.specs.List.{list_any};
+ghost use Rattle.std.specs.Prelude.{◌≡◌, ◌<◌, ◌^◌, ◌++◌, not, ◌&&◌, ◌||◌, ◌==◌, length, map, filter_map};
+ghost use Rattle.std.specs.Prelude.{position, IfOk, OnOk};
+ghost use Rattle.std.specs.List.{list_any, IsDistinct};
+ghost use Rattle.iface_names.specs.Names.{same_name};
 ghost use Rattle.iface_names.specs.Interfaces.{same_interface};
 ghost use Rattle.cm_model.specs.Faults.{component_with, is_beside};
 ghost use Rattle.chain_order.specs.Links.{places_below, each_below, linked};
@@ -12,7 +14,8 @@ use crate::interfaces::{claims, claims_beside, component_with};
 use chain_order::{Links, heights};
 use cm_document::{Checked, CompDesc, CtlDesc, Description};
 use fixed_num::Memory;
-use iface_names::IfaceName;
+use iface_names::{IfaceName, Name};
+use indexmap::IndexSet;
 use sequence::Seq;
 use std::alloc::Global;
 use std::marker::Model;
@@ -21,6 +24,8 @@ use std::marker::Model;
 /// made once for all requests.
 #[derive(Drop)]
 pub struct Relations {
+    /// Its name.
+    names: IndexSet<Name>,
     /// Those that precede it.
     leaders: Links,
     /// Those that it precedes.
@@ -34,17 +39,22 @@ pub struct Relations {
 }
 
 impl Model for Relations {
+    ghost use Rattle.std.specs.List.{IsDistinct};
+    ghost use Rattle.iface_names.specs.Names.{same_name};
     ghost use Rattle.switch_plan.specs.Relations.{Related};
 
     ghost Value = { Related };
 
     ghost view = { λ w. record {
+      names = w.names.keys;
       leaders = w.leaders;
       followers = w.followers;
       odds = w.odds;
       components = w.components;
       heights = w.heights.items;
     } };
+
+    ghost invariant = { λ w. IsDistinct same_name w.names.keys };
 }
 
 impl Relations {
@@ -53,18 +63,28 @@ impl Relations {
         ensures { IfOk result (λ relations. relations ≡ relations_of checked.now) }
     {
         let description = checked.description();
+        let names = names(alloc, checked)?;
         let heights = heights(alloc, checked)?;
         let components = components(alloc, description)?;
         let odds = odds(alloc, description.controllers.as_slice())?;
         let followers = Links::followers_in(alloc, checked)?;
         let leaders = Links::leaders_in(alloc, checked)?.in_sequence(alloc)?;
         Ok(Relations {
+            names,
             leaders,
             followers,
             odds,
             components,
             heights,
         })
+    }
+
+    /// The place of the controller of this name, if one is described.
+    pub(crate) fn place_of(&self, name: &Name) -> Option<usize>
+        ensures place { result ≡ position (same_name name.now) self.now.names }
+        ensures distinct { IsDistinct same_name self.now.names }
+    {
+        self.names.get_index_of(name)
     }
 
     /// Each controller with those that precede it.
@@ -104,6 +124,19 @@ impl Relations {
     {
         self.components.as_slice()[place as usize].as_slice()
     }
+}
+
+/// The names of the controllers, each at its place.
+fn names(alloc: Global, checked: &Checked) -> Result<IndexSet<Name>, Memory>
+    ensures distinct { IfOk result (λ names. IsDistinct same_name names.keys) }
+    ensures names { IfOk result (λ names. names.keys ≡ map (λ c. c.name) checked.now.controllers) }
+{
+    let controllers = checked.description().controllers.as_slice();
+    let mut names = IndexSet::with_capacity(alloc, controllers.len())?;
+    for controller in controllers {
+        names.insert(controller.name.clone()?)?;
+    }
+    Ok(names)
 }
 
 /// Each controller with those that it is at odds with.

@@ -33,14 +33,14 @@ pub fn strict(
     ensures { IfOk result (λ plan. plan
         ≡ planned (set_scene setting.now) (strict (set_scene setting.now) off.now on.now)) }
 {
-    let leaving = match look_through(alloc, &setting.view, None, off)? {
+    let leaving = match look_through(alloc, setting, None, off)? {
         Listed::Faultless(members) => as_set(alloc, &setting.view, &members)?,
         Listed::Faulty(because) => {
             let plan = refused(alloc, because)?;
             return Ok(plan);
         }
     };
-    let coming = match look_through(alloc, &setting.view, Some(&leaving), on)? {
+    let coming = match look_through(alloc, setting, Some(&leaving), on)? {
         Listed::Faultless(members) => as_set(alloc, &setting.view, &members)?,
         Listed::Faulty(because) => {
             let plan = refused(alloc, because)?;

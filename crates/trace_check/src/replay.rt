@@ -11,6 +11,7 @@ ghost use Rattle.trace_check.specs.Steps.{HasMadeNext, HasReplayedLine, HasRepla
 use crate::callers::{caller_named, first_word};
 use crate::fault::WrongLine;
 use crate::printing::make_line;
+use cm_desk::Desk;
 use cm_document::{Checked, Script, Turn};
 use cm_model::Entry;
 use cm_stock::Stock;
@@ -26,8 +27,8 @@ use trace_text::Lines;
 /// What the lines of a text told, up to the first that is wrong.
 #[derive(Drop)]
 pub struct Replayed<C: Controller> {
-    job: RunningJob<C>,
-    /// How many entries of the job they told. One more was made if a line was to come that did not.
+    desk: Desk<C>,
+    /// How many entries of the desk they told. One more was made if a line was to come that did not.
     told: usize,
     wrong: Option<WrongLine>,
 }
@@ -38,9 +39,9 @@ impl<C: Controller> Model for Replayed<C> {
 
     ghost Value = { ReplayFacts };
 
-    ghost view = { λ r. record { told = take r.told r.job.desk.made; wrong = r.wrong } };
+    ghost view = { λ r. record { told = take r.told r.desk.made; wrong = r.wrong } };
 
-    ghost invariant = { λ r. r.told ≤ length r.job.desk.made };
+    ghost invariant = { λ r. r.told ≤ length r.desk.made };
 }
 
 impl<C: Controller> Replayed<C> {
@@ -50,7 +51,7 @@ impl<C: Controller> Replayed<C> {
     pub fn told(&self) -> &[Entry]
         ensures { result.now ≡ self.now.told }
     {
-        &self.job.desk().history()[..self.told]
+        &self.desk.history()[..self.told]
     }
 
     /// The first wrong line, if there is one.
@@ -85,7 +86,11 @@ pub fn replay_over<C: Controller>(
 {
     let mut job = RunningJob::start(alloc, checked.copy()?, script, stock)?;
     match replay_lines(alloc, checked, script, &mut job, text) {
-        Ok((told, wrong)) => Ok(Replayed { job, told, wrong }),
+        Ok((told, wrong)) => Ok(Replayed {
+            desk: job.into_desk(),
+            told,
+            wrong,
+        }),
         Err(Memory) => {
             drop(job);
             Err(Memory)
@@ -98,7 +103,7 @@ fn replay_lines<C: Controller>(
     alloc: Global,
     checked: &Checked,
     script: &Script,
-    job: &mut RunningJob<C>,
+    job: &mut RunningJob<'_, C>,
     text: &[u8],
 ) -> Result<(usize, Option<WrongLine>), Memory>
     requires short { length text.now < 2 ^ 32 - 1 }
@@ -142,7 +147,7 @@ fn wrong_line<'a, C: Controller>(
     alloc: Global,
     checked: &'a Checked,
     script: &Script,
-    job: &mut RunningJob<C>,
+    job: &mut RunningJob<'_, C>,
     lines: &mut Lines<'a>,
     line: &[u8],
 ) -> Result<Option<Seq<u8>>, Memory>
@@ -173,7 +178,7 @@ fn wrong_line<'a, C: Controller>(
 /// The caller of this number makes its next call, if it has one that is enabled: whether it did.
 fn make_next<C: Controller>(
     alloc: Global,
-    job: &mut RunningJob<C>,
+    job: &mut RunningJob<'_, C>,
     who: u32,
 ) -> Result<bool, Memory>
     ensures { IfOk result (λ made. HasMadeNext made who job.old job.new) }
@@ -185,7 +190,11 @@ fn make_next<C: Controller>(
 
 /// The caller of this number makes its next call, if it has one that is enabled: a session its line, the loop its call.
 #[tactic(auto, using(crate::proofs::NextLemmas::goes_by_loop, crate::proofs::NextLemmas::goes_by_turn))]
-fn advance<C: Controller>(alloc: Global, job: &mut RunningJob<C>, who: u32) -> Result<(), Memory>
+fn advance<C: Controller>(
+    alloc: Global,
+    job: &mut RunningJob<'_, C>,
+    who: u32,
+) -> Result<(), Memory>
     ensures { OnOk result (GoesOn (made_next who) job.old job.new) }
 {
     if who == job.desk().sessions() {

@@ -15,7 +15,10 @@ use std::alloc::Global;
 /// The texts of all interfaces: the states of all joints, then the commands of all joints, then the references of all
 /// controllers.
 #[tactic(auto, using(crate::proofs::NameLemmas::all_interfaces))]
-pub fn interface_texts(alloc: Global, description: &Description) -> Result<Vec<String>, Memory>
+pub(crate) fn interface_texts(
+    alloc: Global,
+    description: &Description,
+) -> Result<Vec<String>, Memory>
     ensures { IfOk result
         (λ texts.
         map string_bytes texts.items

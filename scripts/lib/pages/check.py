@@ -6,8 +6,8 @@
 - The text of a fenced block stands in one source or example, blanks and ends of lines apart; so does each column of a
   block of columns.
 - A row of a table that ends with a constant has its number in the cell before. README has the line of `rt version`.
-- No line of a source, a proof, a script or a page's sentences is wider than 120 columns, and no public name of a
-  library stands in two crates.
+- No line of a source, a proof, a script or a page's sentences is wider than 120 columns, and no public type, function,
+  constant or static stands in two crates.
 - Each crate has a README, each example its place, and each crate its minutes in docs/SPEED.md.
 - No sentence, cell of a table or page is longer than its limit, and a number that is quoted with docs/SPEED.md stands
   there.
@@ -26,7 +26,7 @@ from . import contracts, kinds, lengths, names, write
 from .repository import Repository
 
 WIDEST = 120  # columns
-PUBLIC = re.compile(r"(?m)^pub (?:struct|enum|trait|const) (\w+)")
+PUBLIC = re.compile(r"(?m)^pub (?:(?:const )?fn|struct|enum|trait|type|const|static) (\w+)")
 PASSED_ON = re.compile(r"(?m)^pub use (\w+)::")
 APART = re.compile(r'^\s*#!?\[|".{60,}"')  # lines that may be wider: attributes, which rt fmt joins, and long texts
 SOURCES = re.compile(r".*\.(rt|antt|py)|(\.ci/|scripts/)?\w+")
@@ -71,9 +71,9 @@ def wide_lines(name, text, counts=lambda line: True):
 
 
 def homes_shared(repository):
-    """A name of a library's stands in one crate, so that a reader of an import knows where to look.
+    """A public name stands in one crate, so that a reader of an import knows where to look.
 
-    Crates of tests stand alone.
+    What is `pub(crate)`, or stands within a type or a block, has no import in another crate.
     """
     homes = {}
     for name, text in repository.texts.items():
@@ -81,9 +81,8 @@ def homes_shared(repository):
         if not found:
             continue
         yield from (f"{name}: passes on a name of {it}" for it in PASSED_ON.findall(text) if it in crates())
-        if not re.search(r"^rows_", found[1]):
-            for word in PUBLIC.findall(text):
-                homes.setdefault(word, set()).add(found[1])
+        for word in PUBLIC.findall(text):
+            homes.setdefault(word, set()).add(found[1])
     yield from (
         f"`{word}` is public in {' and '.join(sorted(it))}" for word, it in sorted(homes.items()) if len(it) > 1
     )

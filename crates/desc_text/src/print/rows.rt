@@ -98,7 +98,7 @@ pub fn put_interfaces(
 }
 
 /// The texts of these interfaces.
-pub fn interface_texts(alloc: Global, interfaces: &[IfaceName]) -> Result<Vec<Value>, Memory>
+pub(crate) fn interface_texts(alloc: Global, interfaces: &[IfaceName]) -> Result<Vec<Value>, Memory>
     ensures { IfOk result
         (λ list. array_view list ≡ items_of (map (λ it. string (interface_text it)) interfaces.now)) }
 {

@@ -1,7 +1,7 @@
 //! Calls of pids, trajectories and broadcasters, and their answers. After an update stands what the claims hold.
 
 /// A pid brings what it reads to what is wanted.
-pub const PIDS: &str = "\
+pub(crate) const PIDS: &str = "\
 pid 2 1 0.1 10 10
 configure
 activate 0
@@ -81,7 +81,7 @@ out of range
 done";
 
 /// The integral and the output of a pid stay within their limits, division rounds down, and sums are exact.
-pub const LIMITS: &str = "\
+pub(crate) const LIMITS: &str = "\
 pid 0 1 0 0.05 10
 configure
 activate 0
@@ -177,7 +177,7 @@ ok 1000000000.000000
 ok -1000000000.000000";
 
 /// A trajectory goes on straight lines from point to point, from the update that takes them.
-pub const TRAJECTORIES: &str = "\
+pub(crate) const TRAJECTORIES: &str = "\
 trajectory 1
 configure
 activate 0
@@ -299,7 +299,7 @@ out of range
 done";
 
 /// Lines round down, times need not rise, and any time and any number may stand there.
-pub const LINES: &str = "\
+pub(crate) const LINES: &str = "\
 trajectory 2
 configure
 activate 0 0
@@ -383,7 +383,7 @@ ok<0..32 *  62.500000>
 ok<0..32 *  63.000000>";
 
 /// A broadcaster commands nothing, and takes no mail.
-pub const BROADCASTERS: &str = "\
+pub(crate) const BROADCASTERS: &str = "\
 broadcaster 3
 configure
 activate 1 2

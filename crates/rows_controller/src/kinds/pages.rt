@@ -1,7 +1,7 @@
 //! Calls of controllers, and their answers. After an update stands what the claims hold.
 
 /// A forward gives what it was sent, where that fits.
-pub const FORWARDS: &str = "\
+pub(crate) const FORWARDS: &str = "\
 forward 2
 configure
 activate
@@ -55,7 +55,7 @@ does not fit
 done";
 
 /// A passthrough gives its references where it is chained, else what it was sent; it may have 32 claims.
-pub const PASSTHROUGHS: &str = "\
+pub(crate) const PASSTHROUGHS: &str = "\
 passthrough 2
 configure
 activate chained
@@ -122,7 +122,7 @@ done";
 
 /// A mock refuses, is not ready, and fails, as its parameters say, also where it has as many claims as a controller may
 /// have and lists as many cycles as a run may have.
-pub const MOCKS: &str = "\
+pub(crate) const MOCKS: &str = "\
 mock 1, refuses
 configure
 configure mock 1
@@ -222,7 +222,7 @@ does not fit
 done";
 
 /// Each call in each lifecycle state.
-pub const LIFECYCLE: &str = "\
+pub(crate) const LIFECYCLE: &str = "\
 forward 1
 activate
 send 1

@@ -7,7 +7,7 @@ use std::alloc::Global;
 use std::test::Fail;
 
 /// The parameters of `KIND NUMBERS` or `mock CLAIMS, refuses, not ready CYCLES, fails CYCLES`.
-pub fn params_of(alloc: Global, text: &str) -> Result<Params, Fail> {
+pub(crate) fn params_of(alloc: Global, text: &str) -> Result<Params, Fail> {
     let (kind, given) = text.split_once(" ").unwrap_or((text, ""));
     match kind {
         "forward" => Ok(Params::Forward {
@@ -76,7 +76,7 @@ fn differential_of(given: &str) -> Result<Params, Fail> {
 }
 
 /// What it carries: the kind that is the first word.
-pub fn carried(given: &str) -> Result<Kind, Fail> {
+pub(crate) fn carried(given: &str) -> Result<Kind, Fail> {
     match Kind::read(word(given, 0).as_bytes()) {
         Some(kind) => Ok(kind),
         None => Err(Fail::new("no kind")),

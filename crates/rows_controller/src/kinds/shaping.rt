@@ -2,7 +2,7 @@
 
 /// A transmission tells its actuator what the joint is to do, by its reference where it is chained, else by what it was
 /// sent: a position without the offset, so many times a velocity as the reduction says, that part of an effort.
-pub const TRANSMISSIONS: &str = "\
+pub(crate) const TRANSMISSIONS: &str = "\
 transmission position 3 0.1
 configure
 activate
@@ -103,7 +103,7 @@ done";
 
 /// A differential tells two actuators what two joints are to do: the one by the sum, the other by the difference. Where
 /// one joint is unset, so are both actuators.
-pub const DIFFERENTIALS: &str = "\
+pub(crate) const DIFFERENTIALS: &str = "\
 differential position 2 2 0 0
 configure
 activate
@@ -184,7 +184,7 @@ done";
 
 /// A limiter leads a position to where it is wanted, within a speed and an acceleration, and stops at its ends. It may
 /// pass what is wanted and come back.
-pub const LIMITERS: &str = "\
+pub(crate) const LIMITERS: &str = "\
 limiter -1 1 1 10
 configure
 activate 0
@@ -269,7 +269,7 @@ ok 0.500000";
 
 /// A limiter whose speed or change comes to nothing stands, and so does one whose ends are one. After an update for a
 /// far longer time no step may be feasible: then it stands, and begins anew.
-pub const STANDING: &str = "\
+pub(crate) const STANDING: &str = "\
 limiter -1 1 0 10
 configure
 activate chained 0

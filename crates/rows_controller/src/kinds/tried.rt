@@ -16,7 +16,7 @@ use std::test::Fail;
 /// A controller, its parameters where it is configured, whether it runs chained or not where it runs, and what its
 /// claims hold.
 #[derive(Drop)]
-pub struct Tried<C: Controller> {
+pub(crate) struct Tried<C: Controller> {
     ctl: C,
     params: Option<Params>,
     chained: Option<bool>,

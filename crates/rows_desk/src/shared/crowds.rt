@@ -9,17 +9,16 @@ ghost use Rattle.shared_desk.specs.Passes.{IsSessionPass};
 ghost use Rattle.rows_desk.specs.Shared.{IsLoopOf};
 
 use crate::shared::ends::book_of;
-use crate::shared::lines::at_boot;
 use crate::shared::looping::{Looping, begin, close, compute, land};
-use cm_desk::Desk;
+use crate::shared::starts::share_at_boot;
 use cm_document::Call;
 use cm_model::Entry;
 use cm_stock::Stock;
 use ctl_trait::Controller;
 use iface_names::Name;
-use pages_calls::described::described;
+use pages_calls::described::checked_description;
 use pages_calls::replies::push_reply;
-use pages_calls::stocks::blanks;
+use pages_calls::stocks::few_blanks;
 use pages_cases::pages::hold_told;
 use shared_desk::{Pass, SharedDesk};
 use std::alloc::Global;
@@ -69,17 +68,16 @@ fn sessions_load_on_threads_of_their_own_while_a_flight_is_held(
     rt: HostRuntime,
 ) -> Result<(), Fail> {
     let alloc = rt.alloc();
-    hold_crowd(&rt, alloc, blanks(alloc, BLANKS)?, 1)
+    hold_crowd(&rt, alloc, few_blanks(alloc, BLANKS)?, 1)
 }
 
 #[test]
 fn eight_sessions_make_a_hundred_calls_each(rt: HostRuntime) -> Result<(), Fail> {
     let alloc = rt.alloc();
-    hold_crowd(&rt, alloc, blanks(alloc, BLANKS)?, MOST_CALLS)
+    hold_crowd(&rt, alloc, few_blanks(alloc, BLANKS)?, MOST_CALLS)
 }
 
 /// The loop holds its flight until the threads of all sessions have ended. The judge misses a begin that wants memory.
-#[tactic(auto, using(crate::proofs::SessionLemmas::loop_at_boot, crate::proofs::SessionLemmas::session_count))]
 fn hold_crowd<R: Threads + Wait + Sync, C: Controller + Send>(
     rt: &R,
     alloc: Global,
@@ -89,17 +87,30 @@ fn hold_crowd<R: Threads + Wait + Sync, C: Controller + Send>(
     requires blank { All (λ b. IsBlank (C.meaning b)) blanks.items }
     requires few { length blanks.items < 2 ^ 32 }
 {
-    let checked = described(alloc, ONE)?;
-    let left = checked.description().cycles;
-    let desk = Desk::boot(alloc, checked, Stock::make(blanks), SESSIONS)?;
-    let (desk, pass, passes) = SharedDesk::share(alloc, desk)?;
-    let mut looping = at_boot(pass, left);
+    let checked = checked_description(alloc, ONE)?;
+    let (desk, looping, passes) = share_at_boot(alloc, checked, Stock::make(blanks), SESSIONS)?;
+    hold_flight(rt, alloc, desk, looping, passes, calls)
+}
+
+/// The same of a desk that is shared.
+fn hold_flight<R: Threads + Wait + Sync, C: Controller + Send>(
+    rt: &R,
+    alloc: Global,
+    desk: SharedDesk<C>,
+    mut looping: Looping<C>,
+    passes: Vec<Pass<C>>,
+    calls: u32,
+) -> Result<(), Fail>
+    requires count { desk.at_first.value.opening.sessions ≡ 8 }
+    requires looping { IsLoopOf desk.lock desk.at_first.value looping.pass.pass looping.stand looping.flight }
+    requires passes { All (IsSessionPass desk.lock desk.at_first.value) passes.items }
+{
     drop(begin(rt, &desk, &mut looping));
     let passes = call_all(rt, alloc, &desk, passes, calls)?;
     compute(&desk, &mut looping);
     land(rt, &desk, &mut looping);
     close(rt, &desk, &mut looping);
-    judge_end(alloc, desk, passes, looping, calls)
+    judge_end(alloc, desk, looping, passes, calls)
 }
 
 /// Each session calls on a thread of its own.
@@ -197,20 +208,18 @@ fn load_or_unload(name: Name, loads: bool) -> Call
 fn judge_end<C: Controller>(
     alloc: Global,
     desk: SharedDesk<C>,
-    passes: Vec<Pass<C>>,
     looping: Looping<C>,
+    passes: Vec<Pass<C>>,
     calls: u32,
 ) -> Result<(), Fail>
-    requires sessions { All (IsSessionPass desk.lock desk.at_first.value) passes.items }
     requires count { desk.at_first.value.opening.sessions ≡ 8 }
     requires looping { IsLoopOf desk.lock desk.at_first.value looping.pass.pass looping.stand looping.flight }
+    requires passes { All (IsSessionPass desk.lock desk.at_first.value) passes.items }
 {
-    let Some(book) = book_of(desk, looping, passes, SESSIONS) else {
-        return Err(Fail::new("the loop did not close, or a pass is missing"));
-    };
-    let judged = judge(alloc, &book.history, calls);
-    drop(book);
-    judged
+    match &book_of(desk, looping, passes, SESSIONS) {
+        Some(book) => judge(alloc, &book.history, calls),
+        None => Err(Fail::new("the loop did not close, or a pass is missing")),
+    }
 }
 
 /// What the entries so far come to.

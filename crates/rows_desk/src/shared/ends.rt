@@ -12,7 +12,7 @@ use ctl_trait::Controller;
 use shared_desk::{Pass, SharedDesk};
 
 /// The book, if the loop has closed and these are the passes of so many sessions, in order.
-pub fn book_of<C: Controller>(
+pub(crate) fn book_of<C: Controller>(
     desk: SharedDesk<C>,
     looping: Looping<C>,
     passes: Vec<Pass<C>>,

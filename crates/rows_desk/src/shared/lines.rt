@@ -1,54 +1,45 @@
 //! Pages of calls: each case has the calls of two sessions and of the loop at a shared desk, a line each, and the
 //! history in which they end.
 
-ghost use Rattle.std.specs.Prelude.{◌≡◌, ◌<◌, ◌^◌, ◌∷◌, [], false, None, length, Contains, IfOk};
+ghost use Rattle.std.specs.Prelude.{◌≡◌, ◌<◌, ◌^◌, length};
 ghost use Rattle.std.specs.List.{All};
 ghost use Rattle.cm_model.specs.Controllers.{IsBlank};
-ghost use Rattle.rows_desk.specs.Shared.{IsLoopOf, AreSessions};
+ghost use Rattle.shared_desk.specs.Passes.{IsSessionPass};
+ghost use Rattle.rows_desk.specs.Shared.{IsLoopOf};
 
-use crate::lines::{CANNOT, push_made};
+use crate::lines::push_made;
 use crate::shared::ends::book_of;
 use crate::shared::looping::{Looping, begin_again, close, compute, land};
 use crate::shared::sessions::ask;
-use crate::shared::stand::Stand;
-use cm_desk::Desk;
+use crate::shared::starts::share_at_boot;
+use cm_desk::Book;
 use cm_document::Checked;
 use cm_model::Entry;
 use cm_stock::Stock;
 use ctl_trait::Controller;
-use fixed_num::Memory;
-use pages_calls::described::described;
+use pages_calls::described::checked_description;
 use pages_calls::replies::push_entry;
-use pages_calls::stocks::blanks;
+use pages_calls::stocks::few_blanks;
 use pages_cases::pages::{halves, hold_told};
-use shared_desk::{KeptDesk, LoopPass, Opening, Pass, SharedDesk};
+use shared_desk::{Pass, SharedDesk};
 use std::alloc::Global;
 use std::sync::Wait;
 use std::test::Fail;
-use turn_lock::Kept;
 
 /// How many sessions the desk has.
 const SESSIONS: u32 = 2;
 
-/// Why a test fails whose desk has another number of sessions.
-const NO_PASS: &str = "a session without a pass";
-
 /// What stands before the history in which a case ends.
 const FINISH: &str = "\nfinish => ";
 
-/// The passes of both sessions.
-#[derive(Drop)]
-struct Sessions<C: Controller>
-where
-    KeptDesk<C>: Kept<Entry = Entry, Ground = Opening>,
-{
-    first: Pass<C>,
-    second: Pass<C>,
-}
-
 /// Fails at the first line of a page of which something else is told than it says. A case is a paragraph of lines
 /// `CALL => TOLD`, for a desk of two sessions over this robot, and last `finish => HISTORY`.
-pub fn hold_calls<R: Wait>(rt: &R, alloc: Global, robot: &str, page: &str) -> Result<(), Fail> {
+pub(crate) fn hold_calls<R: Wait>(
+    rt: &R,
+    alloc: Global,
+    robot: &str,
+    page: &str,
+) -> Result<(), Fail> {
     for case in page.split("\n\n") {
         hold_case(rt, alloc, robot, case)?;
     }
@@ -57,12 +48,11 @@ pub fn hold_calls<R: Wait>(rt: &R, alloc: Global, robot: &str, page: &str) -> Re
 
 fn hold_case<R: Wait>(rt: &R, alloc: Global, robot: &str, case: &str) -> Result<(), Fail> {
     let (calls, history) = halves(case, FINISH)?;
-    let checked = described(alloc, robot)?;
-    play(rt, alloc, checked, blanks(alloc, 1)?, calls, history)
+    let checked = checked_description(alloc, robot)?;
+    play(rt, alloc, checked, few_blanks(alloc, 1)?, calls, history)
 }
 
 /// The calls of a case, at a desk that is shared at boot, each with what is told of it.
-#[tactic(auto, using(crate::proofs::SessionLemmas::two_sessions, crate::proofs::SessionLemmas::loop_at_boot))]
 fn play<R: Wait, C: Controller>(
     rt: &R,
     alloc: Global,
@@ -74,59 +64,30 @@ fn play<R: Wait, C: Controller>(
     requires blank { All (λ b. IsBlank (C.meaning b)) blanks.items }
     requires few { length blanks.items < 2 ^ 32 }
 {
-    let left = checked.description().cycles;
-    let desk = Desk::boot(alloc, checked, Stock::make(blanks), SESSIONS)?;
-    let (desk, pass, passes) = SharedDesk::share(alloc, desk)?;
-    let sessions = both(passes)?;
-    let looping = at_boot(pass, left);
-    play_on(rt, alloc, desk, sessions, looping, calls, history)
+    let (desk, looping, passes) = share_at_boot(alloc, checked, Stock::make(blanks), SESSIONS)?;
+    play_on(rt, alloc, desk, looping, passes, calls, history)
 }
 
-/// The loop has not begun yet.
-pub fn at_boot<C: Controller>(pass: LoopPass<C>, left: u64) -> Looping<C>
-    ensures pass { result.pass.pass ≡ pass.pass }
-    ensures stand { result.stand ≡ record { left = left; aloft = false; closed = false } }
-    ensures flight { result.flight ≡ None }
-{
-    Looping {
-        pass,
-        stand: Stand {
-            left,
-            aloft: false,
-            closed: false,
-        },
-        flight: None,
-    }
-}
-
-/// The passes of two sessions.
-fn both<C: Controller>(mut passes: Vec<Pass<C>>) -> Result<Sessions<C>, Fail>
-    ensures { IfOk result (λ s. Contains passes.items s.first × Contains passes.items s.second) }
-{
-    let Some(second) = passes.pop() else {
-        return Err(Fail::new(NO_PASS));
-    };
-    let Some(first) = passes.pop() else {
-        return Err(Fail::new(NO_PASS));
-    };
-    Ok(Sessions { first, second })
-}
-
-/// The same of a desk that is shared.
+/// The same of a desk that is shared. All passes are handed in then.
 fn play_on<R: Wait, C: Controller>(
     rt: &R,
     alloc: Global,
     desk: SharedDesk<C>,
-    mut sessions: Sessions<C>,
     mut looping: Looping<C>,
+    mut passes: Vec<Pass<C>>,
     calls: &str,
     history: &str,
 ) -> Result<(), Fail>
-    requires sessions { AreSessions desk.lock desk.at_first.value sessions.first sessions.second }
+    requires count { desk.at_first.value.opening.sessions ≡ 2 }
     requires looping { IsLoopOf desk.lock desk.at_first.value looping.pass.pass looping.stand looping.flight }
+    requires passes { All (IsSessionPass desk.lock desk.at_first.value) passes.items }
 {
-    hold_lines(rt, alloc, &desk, &mut sessions, &mut looping, calls)?;
-    hold_end(alloc, desk, sessions, looping, history)
+    let held = hold_lines(rt, alloc, &desk, &mut looping, &mut passes, calls);
+    let book = book_of(desk, looping, passes, SESSIONS);
+    match held {
+        Ok(()) => hold_book(alloc, &book, history),
+        Err(fail) => Err(fail),
+    }
 }
 
 /// Fails at the first of these calls of which something else is told than is wanted.
@@ -134,19 +95,19 @@ fn hold_lines<R: Wait, C: Controller>(
     rt: &R,
     alloc: Global,
     desk: &SharedDesk<C>,
-    sessions: &mut Sessions<C>,
     looping: &mut Looping<C>,
+    passes: &mut Vec<Pass<C>>,
     calls: &str,
 ) -> Result<(), Fail>
-    requires sessions { AreSessions desk.now.lock desk.now.at_first.value sessions.old.first sessions.old.second }
     requires looping { IsLoopOf desk.now.lock desk.now.at_first.value looping.old.pass.pass looping.old.stand
         looping.old.flight }
-    ensures sessions { AreSessions desk.now.lock desk.now.at_first.value sessions.new.first sessions.new.second }
+    requires passes { All (IsSessionPass desk.now.lock desk.now.at_first.value) passes.old.items }
     ensures looping { IsLoopOf desk.now.lock desk.now.at_first.value looping.new.pass.pass looping.new.stand
         looping.new.flight }
+    ensures passes { All (IsSessionPass desk.now.lock desk.now.at_first.value) passes.new.items }
 {
     for line in calls.lines() {
-        hold_line(rt, alloc, desk, sessions, looping, line)?;
+        hold_line(rt, alloc, desk, looping, passes, line)?;
     }
     Ok(())
 }
@@ -155,23 +116,24 @@ fn hold_line<R: Wait, C: Controller>(
     rt: &R,
     alloc: Global,
     desk: &SharedDesk<C>,
-    sessions: &mut Sessions<C>,
     looping: &mut Looping<C>,
+    passes: &mut Vec<Pass<C>>,
     line: &str,
 ) -> Result<(), Fail>
-    requires sessions { AreSessions desk.now.lock desk.now.at_first.value sessions.old.first sessions.old.second }
     requires looping { IsLoopOf desk.now.lock desk.now.at_first.value looping.old.pass.pass looping.old.stand
         looping.old.flight }
-    ensures sessions { AreSessions desk.now.lock desk.now.at_first.value sessions.new.first sessions.new.second }
+    requires passes { All (IsSessionPass desk.now.lock desk.now.at_first.value) passes.old.items }
     ensures looping { IsLoopOf desk.now.lock desk.now.at_first.value looping.new.pass.pass looping.new.stand
         looping.new.flight }
+    ensures passes { All (IsSessionPass desk.now.lock desk.now.at_first.value) passes.new.items }
 {
     let (call, want) = halves(line, " => ")?;
     let mut told = String::new(alloc);
-    match call.strip_prefix("loop ") {
-        Some(word) => turn(rt, desk, looping, word, &mut told)?,
-        None => ask_one(rt, alloc, desk, sessions, call, &mut told)?,
-    }
+    let made = match call.strip_prefix("loop ") {
+        Some(word) => turn(rt, desk, looping, word, &mut told),
+        None => ask_one(rt, alloc, desk, passes, call, &mut told),
+    };
+    made?;
     hold_told(alloc, call, told.as_str(), want)
 }
 
@@ -188,14 +150,13 @@ fn turn<R: Wait, C: Controller>(
     ensures { IsLoopOf desk.now.lock desk.now.at_first.value looping.new.pass.pass looping.new.stand
         looping.new.flight }
 {
-    let made = match word {
-        "begin" => begin_again(rt, desk, looping)?,
-        "compute" => compute(desk, looping),
-        "land" => land(rt, desk, looping),
-        "close" => close(rt, desk, looping),
-        _ => return Err(Fail::new("an unknown call of the loop")),
-    };
-    push_made(told, made)
+    match word {
+        "begin" => begin_again(rt, desk, looping, told),
+        "compute" => push_made(told, compute(desk, looping)),
+        "land" => push_made(told, land(rt, desk, looping)),
+        "close" => push_made(told, close(rt, desk, looping)),
+        _ => Err(Fail::new("an unknown call of the loop")),
+    }
 }
 
 /// `WHO CALL`, of a session.
@@ -203,64 +164,42 @@ fn ask_one<R: Wait, C: Controller>(
     rt: &R,
     alloc: Global,
     desk: &SharedDesk<C>,
-    sessions: &mut Sessions<C>,
+    passes: &mut Vec<Pass<C>>,
     line: &str,
     told: &mut String,
 ) -> Result<(), Fail>
-    requires { AreSessions desk.now.lock desk.now.at_first.value sessions.old.first sessions.old.second }
-    ensures { AreSessions desk.now.lock desk.now.at_first.value sessions.new.first sessions.new.second }
+    requires { All (IsSessionPass desk.now.lock desk.now.at_first.value) passes.old.items }
+    ensures { All (IsSessionPass desk.now.lock desk.now.at_first.value) passes.new.items }
 {
     let (who, words) = halves(line, " ")?;
-    match who {
-        "0" => ask(rt, alloc, desk, &mut sessions.first, words, told),
-        "1" => ask(rt, alloc, desk, &mut sessions.second, words, told),
-        _ => Err(Fail::new("no such session")),
+    let who: usize = who.parse()?;
+    if who >= passes.len() {
+        return Err(Fail::new("no such session"));
     }
+    ask(rt, alloc, desk, &mut passes[who], words, told)
 }
 
 // ---- The end
 
-/// All passes are handed in; the history of the book is told, or that the loop has not closed.
-#[tactic(auto, using(crate::proofs::SessionLemmas::in_a_row))]
-fn hold_end<C: Controller>(
+/// The history of the book is told, or that the loop has not closed.
+fn hold_book<C: Controller>(
     alloc: Global,
-    desk: SharedDesk<C>,
-    sessions: Sessions<C>,
-    looping: Looping<C>,
+    book: &Option<Book<C>>,
     history: &str,
-) -> Result<(), Fail>
-    requires sessions { AreSessions desk.lock desk.at_first.value sessions.first sessions.second }
-    requires looping { IsLoopOf desk.lock desk.at_first.value looping.pass.pass looping.stand looping.flight }
-{
-    let Sessions { first, second } = sessions;
-    let passes = in_order(alloc, first, second)?;
-    let Some(book) = book_of(desk, looping, passes, SESSIONS) else {
-        return hold_told(alloc, "finish", CANNOT, history);
-    };
-    let told = told_of(alloc, &book.history);
-    drop(book);
-    hold_told(alloc, "finish", told?.as_str(), history)
-}
-
-/// Both passes, in a row.
-fn in_order<C: Controller>(
-    alloc: Global,
-    first: Pass<C>,
-    second: Pass<C>,
-) -> Result<Vec<Pass<C>>, Memory>
-    ensures { IfOk result (λ row. row.items ≡ first ∷ second ∷ []) }
-{
-    let mut row = Vec::with_capacity(alloc, 2)?;
-    row.push_reserved(first);
-    row.push_reserved(second);
-    Ok(row)
-}
-
-/// What is told of a history: all entries.
-fn told_of(alloc: Global, history: &[Entry]) -> Result<String, Fail> {
+) -> Result<(), Fail> {
     let mut told = String::new(alloc);
+    let pushed = match book {
+        Some(book) => push_entries(alloc, &mut told, &book.history),
+        None => push_made(&mut told, false),
+    };
+    pushed?;
+    hold_told(alloc, "finish", told.as_str(), history)
+}
+
+/// Appends all entries.
+fn push_entries(alloc: Global, told: &mut String, history: &[Entry]) -> Result<(), Fail> {
     for entry in history {
-        push_entry(alloc, &mut told, entry)?;
+        push_entry(alloc, told, entry)?;
     }
-    Ok(told)
+    Ok(())
 }

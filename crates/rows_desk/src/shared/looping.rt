@@ -2,8 +2,9 @@
 
 ghost use Rattle.rows_desk.specs.Shared.{IsLoopOf};
 
+use crate::lines::push_made;
 use crate::shared::sessions::{MOST_TRIES, TOO_OFTEN};
-use crate::shared::stand::Stand;
+use crate::shared::stand::LoopStand;
 use cm_model::Entry;
 use ctl_trait::Controller;
 use fixed_num::Memory;
@@ -15,18 +16,18 @@ use turn_lock::Kept;
 
 /// The pass of the loop, where the loop stands, and the flight that is at hand while a cycle is aloft.
 #[derive(Drop)]
-pub struct Looping<C: Controller>
+pub(crate) struct Looping<C: Controller>
 where
     KeptDesk<C>: Kept<Entry = Entry, Ground = Opening>,
 {
     pub pass: LoopPass<C>,
-    pub stand: Stand,
+    pub stand: LoopStand,
     pub flight: Option<Flight<C>>,
 }
 
 /// The next cycle begins, if one can.
 #[tactic(auto, using(crate::proofs::LoopPassLemmas::begins_so, crate::proofs::LoopPassLemmas::begins_loop, crate::proofs::LoopPassLemmas::stays_loop))]
-pub fn begin<R: Wait, C: Controller>(
+pub(crate) fn begin<R: Wait, C: Controller>(
     rt: &R,
     desk: &SharedDesk<C>,
     looping: &mut Looping<C>,
@@ -48,7 +49,7 @@ pub fn begin<R: Wait, C: Controller>(
 
 /// The flight at hand is computed, if there is one that is not.
 #[tactic(auto, using(crate::proofs::LoopPassLemmas::computes_loop))]
-pub fn compute<C: Controller>(desk: &SharedDesk<C>, looping: &mut Looping<C>) -> bool
+pub(crate) fn compute<C: Controller>(desk: &SharedDesk<C>, looping: &mut Looping<C>) -> bool
     requires { IsLoopOf desk.now.lock desk.now.at_first.value looping.old.pass.pass looping.old.stand
         looping.old.flight }
     ensures { IsLoopOf desk.now.lock desk.now.at_first.value looping.new.pass.pass looping.new.stand
@@ -66,7 +67,11 @@ pub fn compute<C: Controller>(desk: &SharedDesk<C>, looping: &mut Looping<C>) ->
 
 /// The flight at hand lands, if there is one that is computed.
 #[tactic(auto, using(crate::proofs::LoopPassLemmas::lands_loop, crate::proofs::LoopPassLemmas::at_hand))]
-pub fn land<R: Wait, C: Controller>(rt: &R, desk: &SharedDesk<C>, looping: &mut Looping<C>) -> bool
+pub(crate) fn land<R: Wait, C: Controller>(
+    rt: &R,
+    desk: &SharedDesk<C>,
+    looping: &mut Looping<C>,
+) -> bool
     requires { IsLoopOf desk.now.lock desk.now.at_first.value looping.old.pass.pass looping.old.stand
         looping.old.flight }
     ensures { IsLoopOf desk.now.lock desk.now.at_first.value looping.new.pass.pass looping.new.stand
@@ -87,7 +92,11 @@ pub fn land<R: Wait, C: Controller>(rt: &R, desk: &SharedDesk<C>, looping: &mut 
 
 /// The loop closes, if it can.
 #[tactic(auto, using(crate::proofs::LoopPassLemmas::closes_so, crate::proofs::LoopPassLemmas::closes_loop))]
-pub fn close<R: Wait, C: Controller>(rt: &R, desk: &SharedDesk<C>, looping: &mut Looping<C>) -> bool
+pub(crate) fn close<R: Wait, C: Controller>(
+    rt: &R,
+    desk: &SharedDesk<C>,
+    looping: &mut Looping<C>,
+) -> bool
     requires { IsLoopOf desk.now.lock desk.now.at_first.value looping.old.pass.pass looping.old.stand
         looping.old.flight }
     ensures { IsLoopOf desk.now.lock desk.now.at_first.value looping.new.pass.pass looping.new.stand
@@ -101,12 +110,13 @@ pub fn close<R: Wait, C: Controller>(rt: &R, desk: &SharedDesk<C>, looping: &mut
     true
 }
 
-/// The same, again where it wants memory.
-pub fn begin_again<R: Wait, C: Controller>(
+/// The next cycle begins, if one can, again where that wants memory. Whether it began is told.
+pub(crate) fn begin_again<R: Wait, C: Controller>(
     rt: &R,
     desk: &SharedDesk<C>,
     looping: &mut Looping<C>,
-) -> Result<bool, Fail>
+    told: &mut String,
+) -> Result<(), Fail>
     requires { IsLoopOf desk.now.lock desk.now.at_first.value looping.old.pass.pass looping.old.stand
         looping.old.flight }
     ensures { IsLoopOf desk.now.lock desk.now.at_first.value looping.new.pass.pass looping.new.stand
@@ -114,7 +124,7 @@ pub fn begin_again<R: Wait, C: Controller>(
 {
     for _ in 0..MOST_TRIES {
         if let Ok(began) = begin(rt, desk, looping) {
-            return Ok(began);
+            return push_made(told, began);
         }
     }
     Err(Fail::new(TOO_OFTEN))

@@ -13,14 +13,14 @@ use std::sync::Wait;
 use std::test::Fail;
 
 /// So often a call is made again that wants memory. Only a test that is refused memory needs more than one.
-pub const MOST_TRIES: u32 = 3;
+pub(crate) const MOST_TRIES: u32 = 3;
 
 /// Why a test fails whose call always wants memory.
-pub const TOO_OFTEN: &str = "a call wants memory again and again";
+pub(crate) const TOO_OFTEN: &str = "a call wants memory again and again";
 
 /// The words of a call: `VERB REST`, `told TICKET`, `await CYCLES`, `cycles seen` or `tickets seen`.
 #[tactic(auto, using(crate::proofs::SessionLemmas::looked_session))]
-pub fn ask<R: Wait, C: Controller>(
+pub(crate) fn ask<R: Wait, C: Controller>(
     rt: &R,
     alloc: Global,
     desk: &SharedDesk<C>,
@@ -33,8 +33,8 @@ pub fn ask<R: Wait, C: Controller>(
 {
     let (verb, rest) = words.split_once(" ").unwrap_or((words, ""));
     match verb {
-        "told" => ask_for(rt, desk, pass, rest.parse()?, told),
-        "await" => wait_for(rt, desk, pass, rest.parse()?, told),
+        "told" => ask_for(rt, desk, pass, rest, told),
+        "await" => wait_for(rt, desk, pass, rest, told),
         "cycles" => push_count(told, desk.cycles_seen(pass)),
         "tickets" => push_count(told, desk.tickets_seen(pass)),
         _ => call_desk(rt, alloc, desk, pass, verb, rest, told),
@@ -83,12 +83,13 @@ fn ask_for<R: Wait, C: Controller>(
     rt: &R,
     desk: &SharedDesk<C>,
     pass: &mut Pass<C>,
-    ticket: u32,
+    ticket: &str,
     told: &mut String,
 ) -> Result<(), Fail>
     requires { IsSessionPass desk.now.lock desk.now.at_first.value pass.old }
     ensures { IsSessionPass desk.now.lock desk.now.at_first.value pass.new }
 {
+    let ticket = ticket.parse()?;
     for _ in 0..MOST_TRIES {
         if let Ok(outcome) = desk.told(rt, pass, ticket) {
             return push_outcome(told, outcome);
@@ -103,12 +104,13 @@ fn wait_for<R: Wait, C: Controller>(
     rt: &R,
     desk: &SharedDesk<C>,
     pass: &mut Pass<C>,
-    cycles: u64,
+    cycles: &str,
     told: &mut String,
 ) -> Result<(), Fail>
     requires { IsSessionPass desk.now.lock desk.now.at_first.value pass.old }
     ensures { IsSessionPass desk.now.lock desk.now.at_first.value pass.new }
 {
+    let cycles = cycles.parse()?;
     for _ in 0..MOST_TRIES {
         if let Ok(reached) = desk.reached(rt, pass, cycles) {
             return push_reached(told, reached);

@@ -2,7 +2,7 @@
 
 /// Where the loop stands, as its pass has seen.
 #[derive(Clone, Copy)]
-pub struct Stand {
+pub struct LoopStand {
     /// So many cycles are left.
     pub left: u64,
     pub aloft: bool,

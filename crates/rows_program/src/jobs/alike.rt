@@ -1,7 +1,7 @@
 //! What a run prints does not depend on the number of its workers.
 
 use crate::jobs::waiting::ran;
-use pages_calls::stocks::blanks;
+use pages_calls::stocks::few_blanks;
 use pages_cases::pages::{expanded, halves, hold_told};
 use pages_runs::documents::SIX_JOINTS;
 use pages_runs::runs::IN_STOCK;
@@ -37,6 +37,6 @@ fn hold<R: Threads + Wait + Sync>(
 ) -> Result<(), Fail> {
     let case = expanded(alloc, case)?;
     let (document, want) = halves(case.as_str(), "=> ")?;
-    let told = ran(rt, alloc, words, document, 0, blanks(alloc, IN_STOCK)?)?;
+    let told = ran(rt, alloc, words, document, 0, few_blanks(alloc, IN_STOCK)?)?;
     hold_told(alloc, words, told.as_str(), want)
 }

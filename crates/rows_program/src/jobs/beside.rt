@@ -8,7 +8,7 @@ use crate::jobs::meeting::Meeting;
 use crate::jobs::waiting::ran;
 use crate::jobs::watching::all_watching;
 use ctl_trait::Controller;
-use pages_calls::stocks::blanks;
+use pages_calls::stocks::few_blanks;
 use sequence::Shared;
 use std::alloc::Global;
 use std::sync::Wait;
@@ -88,7 +88,7 @@ fn hold_no_meeting<R: Threads + Wait + Sync>(
 /// Whether the two have met in the run, which goes well.
 fn have_met<R: Threads + Wait + Sync>(rt: &R, alloc: Global, words: &str) -> Result<bool, Fail> {
     let meeting = Shared::new(alloc, Meeting::new())?;
-    let two = all_watching(alloc, blanks(alloc, 2)?, &meeting)?;
+    let two = all_watching(alloc, few_blanks(alloc, 2)?, &meeting)?;
     let told = ran_over(rt, alloc, words, two)?;
     if !told.starts_with("ok\n") {
         return Err(Fail::new(told));

@@ -1,8 +1,7 @@
 //! Live runs that are left to their threads, and a full queue: what each caller is told, whoever comes first.
 
-use crate::jobs::ordered::InOrder;
-use crate::jobs::running::{ARM, Ran, run_live};
-use pages_cases::pages::{halves, hold_told, joined, push_parted};
+use crate::jobs::running::{ARM, Ran, run_in_order};
+use pages_cases::pages::{halves, hold_told, push_parted};
 use std::alloc::Global;
 use std::sync::Wait;
 use std::test::Fail;
@@ -106,7 +105,7 @@ computed 0, landed 0, paused 0, begun 1, computed 1, landed 1, paused 1, begun 2
 
 const MADE_OF_THREE: &str = "a load fwd, configure fwd, switch strict +fwd, send fwd 0.500000";
 
-/// A run whose threads come by these marks in order; nobody is held at others.
+/// A run whose threads come by these marks in order, and which goes well.
 fn run_held<R: Threads + Wait + Sync>(
     rt: &R,
     alloc: Global,
@@ -114,12 +113,7 @@ fn run_held<R: Threads + Wait + Sync>(
     script: &str,
     marks: &str,
 ) -> Result<Ran, Fail> {
-    let document = joined(alloc, head, script)?;
-    let order = InOrder::read(alloc, marks)?;
-    let ran = run_live(rt, alloc, document.as_str(), &order)?;
-    if !order.has_come_through() {
-        return Err(Fail::new("held too long"));
-    }
+    let ran = run_in_order(rt, alloc, head, script, marks)?;
     match ran.told.starts_with("ok\n") {
         true => Ok(ran),
         false => Err(Fail::new(ran.told)),

@@ -9,7 +9,7 @@ const MOST_TURNS: u32 = 1_000_000;
 
 /// Whether each has come, and whether one waited in vain.
 #[derive(Drop)]
-pub struct Meeting {
+pub(crate) struct Meeting {
     first: AtomicBool,
     second: AtomicBool,
     is_missed: AtomicBool,

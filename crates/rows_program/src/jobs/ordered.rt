@@ -24,7 +24,7 @@ enum Mark {
 /// A thread that comes to one of these marks is held until all marks before it have been passed. Nobody is held at
 /// other marks.
 #[derive(Drop)]
-pub struct InOrder {
+pub(crate) struct InOrder {
     marks: Vec<Mark>,
     /// How many of them have been passed.
     passed: AtomicU64,
@@ -82,7 +82,7 @@ impl Gate for InOrder {
 
 /// A pace that holds the loop in a pause, and counts its calls.
 #[derive(Drop)]
-pub struct OrderedPace<'a> {
+pub(crate) struct OrderedPace<'a> {
     pub order: &'a InOrder,
     pub calls: u64,
 }

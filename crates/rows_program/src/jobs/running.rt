@@ -10,7 +10,7 @@ use cm_stock::Stock;
 use cm_top::{Status, run};
 use ctl_trait::Controller;
 use outside_io::{MemSink, MemSource};
-use pages_calls::stocks::blanks;
+use pages_calls::stocks::few_blanks;
 use pages_cases::pages::{expanded, halves, hold_told, joined};
 use pages_runs::runs::{IN_STOCK, OF_PROGRAM, ample_sink};
 use std::alloc::Global;
@@ -20,7 +20,7 @@ use std::thread::Threads;
 
 /// A document of one joint with a controller, and with a mock for which that one stands in. The cycles and the script
 /// stand behind it.
-pub const ARM: &str = r#"version = 1
+pub(crate) const ARM: &str = r#"version = 1
 update_rate = 100
 component = [
     { name = "arm", kind = "actuator", joint = [
@@ -38,7 +38,7 @@ const ORDER: &str = "order: ";
 
 /// Fails at the first case of a page of which something else is told than it says, in one of so many runs. A case is
 /// the end of a document of the arm, and then a line with the order of its threads.
-pub fn hold<R: Threads + Wait + Sync>(
+pub(crate) fn hold<R: Threads + Wait + Sync>(
     rt: &R,
     alloc: Global,
     page: &str,
@@ -66,53 +66,51 @@ fn hold_case<R: Threads + Wait + Sync>(
 }
 
 /// How the live run of a case ends and what it prints.
-pub fn told_of<R: Threads + Wait + Sync>(
+pub(crate) fn told_of<R: Threads + Wait + Sync>(
     rt: &R,
     alloc: Global,
     text: &str,
 ) -> Result<String, Fail> {
     let (script, marks) = halves(text, ORDER)?;
-    let document = joined(alloc, ARM, script)?;
-    let order = InOrder::read(alloc, marks.trim_end())?;
+    let ran = run_in_order(rt, alloc, ARM, script, marks.trim_end())?;
+    Ok(ran.told)
+}
+
+/// A live run whose threads come by these marks in order; nobody is held at others. The document has two parts.
+pub(crate) fn run_in_order<R: Threads + Wait + Sync>(
+    rt: &R,
+    alloc: Global,
+    head: &str,
+    script: &str,
+    marks: &str,
+) -> Result<Ran, Fail> {
+    let document = joined(alloc, head, script)?;
+    let order = InOrder::read(alloc, marks)?;
     let ran = run_live(rt, alloc, document.as_str(), &order)?;
     if !order.has_come_through() {
-        return Err(Fail::new(format!(in alloc; "held too long: {text}")?));
+        return Err(Fail::new(format!(in alloc; "held too long: {marks}")?));
     }
-    Ok(ran.told)
+    Ok(ran)
 }
 
 /// How a run ended with what it printed, and how often it called its pace.
 #[derive(Drop)]
-pub struct Ran {
+pub(crate) struct Ran {
     pub told: String,
     pub pauses: u64,
 }
 
-/// Runs the document live over the program's stock.
-pub fn run_live<R: Threads + Wait + Sync>(
+/// Runs the document live.
+fn run_live<R: Threads + Wait + Sync>(
     rt: &R,
     alloc: Global,
     document: &str,
     order: &InOrder,
 ) -> Result<Ran, Fail> {
-    run_over(rt, alloc, document, order, blanks(alloc, IN_STOCK)?)
-}
-
-/// The same over a stock of these blanks.
-fn run_over<R: Threads + Wait + Sync, C: Controller + Send>(
-    rt: &R,
-    alloc: Global,
-    document: &str,
-    order: &InOrder,
-    blanks: Vec<C>,
-) -> Result<Ran, Fail>
-    requires blank { All (λ c. IsBlank (C.meaning c)) blanks.items }
-    requires few { length blanks.items < 2 ^ 32 }
-{
+    let words = [String::from_str(alloc, "live")?];
     let mut source = OF_PROGRAM.source(alloc, document)?;
     let mut sink = ample_sink(alloc)?;
-    let words = [String::from_str(alloc, "live")?];
-    let ended = run_held(rt, alloc, &words, &mut source, &mut sink, blanks, order);
+    let ended = run_stocked(rt, alloc, &words, &mut source, &mut sink, order)?;
     all_told(alloc, ended, sink.bytes())
 }
 
@@ -132,6 +130,20 @@ struct Ended {
     pauses: u64,
 }
 
+/// Runs the words over the program's stock.
+fn run_stocked<R: Threads + Wait + Sync>(
+    rt: &R,
+    alloc: Global,
+    words: &[String],
+    source: &mut MemSource,
+    sink: &mut MemSink,
+    order: &InOrder,
+) -> Result<Ended, Fail> {
+    let blanks = few_blanks(alloc, IN_STOCK)?;
+    Ok(run_held(rt, alloc, words, source, sink, blanks, order))
+}
+
+/// Runs the words over a stock of these blanks.
 fn run_held<R: Threads + Wait + Sync, C: Controller + Send>(
     rt: &R,
     alloc: Global,

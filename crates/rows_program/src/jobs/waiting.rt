@@ -7,7 +7,7 @@ ghost use Rattle.cm_model.specs.Controllers.{IsBlank};
 use cm_stock::Stock;
 use cm_top::{Status, run};
 use ctl_trait::Controller;
-use outside_io::{Gate, Pace, Point};
+use outside_io::{Gate, MemSink, MemSource, Pace, Point};
 use pages_cases::pages::joined;
 use pages_runs::runs::{OF_PROGRAM, ample_sink, in_words};
 use std::alloc::Global;
@@ -59,7 +59,7 @@ impl Pace for UntilAsked<'_> {
 
 /// How a run of a document ends by words, between which a bar stands, over a stock of these blanks, and what it prints.
 /// The loop of a live run waits behind each cycle until the first session has its answer to this line.
-pub fn ran<R: Threads + Wait + Sync, C: Controller + Send>(
+pub(crate) fn ran<R: Threads + Wait + Sync, C: Controller + Send>(
     rt: &R,
     alloc: Global,
     words: &str,
@@ -73,27 +73,36 @@ pub fn ran<R: Threads + Wait + Sync, C: Controller + Send>(
     let mut source = OF_PROGRAM.source(alloc, document)?;
     let mut sink = ample_sink(alloc)?;
     let words = split(alloc, words)?;
+    let words = words.as_slice();
+    let status = run_waiting(rt, alloc, words, &mut source, &mut sink, line, blanks);
+    told(alloc, status, sink.bytes())
+}
+
+/// How the run ends.
+fn run_waiting<R: Threads + Wait + Sync, C: Controller + Send>(
+    rt: &R,
+    alloc: Global,
+    words: &[String],
+    source: &mut MemSource,
+    sink: &mut MemSink,
+    line: u32,
+    blanks: Vec<C>,
+) -> Status
+    requires blank { All (λ c. IsBlank (C.meaning c)) blanks.items }
+    requires few { length blanks.items < 2 ^ 32 }
+{
     let asked = Asked {
         line,
         is_answered: AtomicBool::new(false),
     };
     let mut pace = UntilAsked { asked: &asked };
     let stock = Stock::make(blanks);
-    let (status, _) = run(
-        rt,
-        alloc,
-        words.as_slice(),
-        &mut source,
-        &mut sink,
-        stock,
-        &mut pace,
-        &asked,
-    );
-    told(alloc, status, sink.bytes())
+    let (status, _) = run(rt, alloc, words, source, sink, stock, &mut pace, &asked);
+    status
 }
 
 /// A status, and below it what was printed, without the end of the last line.
-pub fn told(alloc: Global, status: Status, printed: &[u8]) -> Result<String, Fail> {
+pub(crate) fn told(alloc: Global, status: Status, printed: &[u8]) -> Result<String, Fail> {
     let ended = in_words(alloc, status)?;
     let told = joined(alloc, ended.as_str(), "\n")?;
     let told = joined(alloc, told.as_str(), str::from_utf8(printed)?)?;

@@ -17,7 +17,7 @@ use std::test::Fail;
 
 /// A controller, with the meeting to which it comes in each update, as the first or the second.
 #[derive(Drop)]
-pub struct Watching<C: Controller> {
+pub(crate) struct Watching<C: Controller> {
     ctl: C,
     meeting: Shared<Meeting>,
     is_first: bool,
@@ -85,7 +85,7 @@ impl<C: Controller> Controller for Watching<C> {
 }
 
 /// Blanks that come to a meeting, as the first and as the second in turn.
-pub fn all_watching<C: Controller>(
+pub(crate) fn all_watching<C: Controller>(
     alloc: Global,
     mut blanks: Vec<C>,
     meeting: &Shared<Meeting>,

@@ -3,7 +3,7 @@
 /// A controller from its load to its unload; as many loads as there are blanks of a kind, and one more; all blanks of
 /// two kinds at once; and calls before cycles, which go on as if they had not been made: an inactive controller
 /// commands nothing, is not updated, and stays where its hardware fails.
-pub const DOCUMENTS: &str = r#"version = 1
+pub(crate) const DOCUMENTS: &str = r#"version = 1
 update_rate = 100
 cycles = 0
 [[component]]

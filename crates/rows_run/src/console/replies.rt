@@ -3,7 +3,7 @@
 
 /// A forward of two joints, a passthrough with a rate of its own, a forward above it, a pid, a trajectory, a
 /// broadcaster, a mock that is never ready and fails always, and one that refuses to be configured.
-pub const ARM: &str = r#"version = 1
+pub(crate) const ARM: &str = r#"version = 1
 update_rate = 100
 cycles = 0
 [[component]]
@@ -58,7 +58,7 @@ refuse_config = true
 "#;
 
 /// A controller from its load to its unload, once with a rate of 25 hertz at 100 hertz, which is every fourth cycle.
-pub const WORKED: &str = r"load fwd => ok 0
+pub(crate) const WORKED: &str = r"load fwd => ok 0
 configure fwd => ok
 rate fwd 25 => ok
 configure fwd => ok
@@ -72,7 +72,7 @@ unload fwd => not_loaded";
 /// Not described; described and not loaded; unconfigured; inactive; and one that cannot be configured. Where several
 /// refusals apply the first is told: of one that is not loaded, that alone, whatever its kind and parameters say; of
 /// one that is not active, that alone, whatever it is sent.
-pub const BY_LIFECYCLE: &str = r"list controllers => none
+pub(crate) const BY_LIFECYCLE: &str = r"list controllers => none
 load nosuch => not_described
 configure nosuch => not_loaded
 cleanup nosuch => not_loaded
@@ -160,7 +160,7 @@ configure stiff => not_loaded";
 
 /// Controllers stand by serial, in whatever order they are described. None is chained, since none is active. A serial
 /// is not used again, and only a load that is done takes one.
-pub const BY_SERIAL: &str = r"load mk => ok 0
+pub(crate) const BY_SERIAL: &str = r"load mk => ok 0
 load nosuch => not_described
 load mk => loaded
 load above => ok 1
@@ -193,7 +193,7 @@ load relay => ok 6";
 
 /// In how many cycles a controller is updated once, at 100 hertz. A rate counts at the next configure; a cleanup keeps
 /// it, and a load begins with the described one.
-pub const BY_RATE: &str = r"load relay => ok 0
+pub(crate) const BY_RATE: &str = r"load relay => ok 0
 configure relay => ok
 list controllers => relay passthrough inactive 0 every 3
 rate relay 10 => ok
@@ -249,7 +249,7 @@ list controllers => fwd forward inactive 0 every 100";
 
 /// A pid, a trajectory and a broadcaster go through their lifecycle as the others do. Of a broadcaster that is not
 /// active it is not told that it takes nothing.
-pub const BY_KIND: &str = r"load servo => ok 0
+pub(crate) const BY_KIND: &str = r"load servo => ok 0
 load way => ok 1
 load eye => ok 2
 list controllers => servo pid unconfigured 0; way trajectory unconfigured 1; eye broadcaster unconfigured 2

@@ -2,7 +2,7 @@
 
 /// A joint that is commanded by its position or by its velocity, and mocks that fail in cycle 1 and name those that
 /// command it. A script follows, of a session that has begun.
-pub const ARM: &str = r#"version = 1
+pub(crate) const ARM: &str = r#"version = 1
 update_rate = 100
 cycles = 3
 [[component]]
@@ -54,7 +54,7 @@ session s
 
 /// Of two that command one joint the first of the list comes, or the one that is active already. A follower comes
 /// before the one that leads it, wherever it stands in the list.
-pub const LEFT_OUT: &str = r"load mk
+pub(crate) const LEFT_OUT: &str = r"load mk
 load fwd
 load other
 configure mk
@@ -174,7 +174,7 @@ loop close: none";
 
 /// Requests come after those that stand in: a component that one of them uses stays. What an earlier begin has decided
 /// comes before: a component that has left brings nobody who uses it.
-pub const WITH_REQUESTS: &str = r"load m3
+pub(crate) const WITH_REQUESTS: &str = r"load m3
 load fwd
 configure m3
 configure fwd

@@ -2,7 +2,7 @@
 
 /// Mocks, most of which fail in cycle 1. One of those that they name fails a cycle later, and one is not ready before
 /// it. A script follows, of a session that has begun.
-pub const MOCKS: &str = r#"version = 1
+pub(crate) const MOCKS: &str = r#"version = 1
 update_rate = 100
 cycles = 4
 [[controller]]
@@ -42,7 +42,7 @@ session s
 /// The list of the one that was updated first comes first. Who is named twice is asked for once. Who is not ready is
 /// not asked for again. One that goes on, and one without a list, bring nobody. Who stands in may fail, and brings its
 /// own.
-pub const LIST_BY_LIST: &str = r"load m2
+pub(crate) const LIST_BY_LIST: &str = r"load m2
 load mk
 load a
 configure m2
@@ -178,7 +178,7 @@ loop close: none";
 
 /// The same by turns. Both lists are known when their cycle has ended, whatever becomes of those that failed; and who
 /// is named is looked at in the begin, with what was called until then.
-pub const LISTS_BY_TURNS: &str = r"load m2
+pub(crate) const LISTS_BY_TURNS: &str = r"load m2
 load mk
 load a
 load b
@@ -236,7 +236,7 @@ loop end 3: run b ok
 loop close: none";
 
 /// Two that name one another fail in one cycle, and both are back in the next.
-pub const EACH_OTHER: &str = r#"version = 1
+pub(crate) const EACH_OTHER: &str = r#"version = 1
 update_rate = 100
 cycles = 3
 [[controller]]

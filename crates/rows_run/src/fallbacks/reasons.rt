@@ -3,7 +3,7 @@
 /// One that uses a component which cannot be read is not updated, so its update does not fail; nor does that of one
 /// that leads another. If a write fails in the cycle in which an update fails, that one stops for both, and its
 /// fallbacks come.
-pub const REASONS: &str = r#"version = 1
+pub(crate) const REASONS: &str = r#"version = 1
 update_rate = 100
 cycles = 3
 [[component]]

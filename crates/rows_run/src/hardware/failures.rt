@@ -1,7 +1,7 @@
 //! Components whose reads and writes fail, and what is told of it.
 
 /// A component of one joint in a run of five cycles, in the middle of its table.
-pub const ARM: &str = r#"version = 1
+pub(crate) const ARM: &str = r#"version = 1
 update_rate = 100
 cycles = 5
 [[component]]
@@ -12,7 +12,7 @@ joint = [{ name = "j1", vmax = 1, command = ["position"], state = ["position"] }
 
 /// A read or a write fails in the first, a middle and the last cycle. After the first failure neither runs any more, so
 /// no cycle that is listed later tells of one; and where the read fails, the write does not run in that cycle.
-pub const OF_ONE_COMPONENT: &str = r#"fail_read = [] => none
+pub(crate) const OF_ONE_COMPONENT: &str = r#"fail_read = [] => none
 fail_read = [0] => 0: fail arm read
 fail_read = [2] => 2: fail arm read
 fail_read = [4] => 4: fail arm read
@@ -33,7 +33,7 @@ fail_read = [1]\nfail_write = [3] => 1: fail arm read
 fail_read = [0, 4]\nfail_write = [0, 4] => 0: fail arm read"#;
 
 /// In both states on error a component is neither read nor written.
-pub const STATES_ON_ERROR: &str =
+pub(crate) const STATES_ON_ERROR: &str =
     r#"on_error = "unconfigured"\nfail_read = [1, 2, 3] => 1: fail arm read
 on_error = "finalized"\nfail_read = [1, 2, 3] => 1: fail arm read
 on_error = "unconfigured"\nfail_write = [1, 2, 3] => 1: fail arm write
@@ -42,7 +42,7 @@ on_error = "unconfigured"\nfail_read = [2]\nfail_write = [0, 4] => 0: fail arm w
 on_error = "finalized"\nfail_read = [2]\nfail_write = [0, 4] => 0: fail arm write"#;
 
 /// A component is read where it is inactive or active, and written where it is active.
-pub const STATES_AT_START: &str =
+pub(crate) const STATES_AT_START: &str =
     r#"initial = "active"\nfail_read = [2]\nfail_write = [1] => 1: fail arm write
 initial = "active"\nfail_read = [2]\nfail_write = [2] => 2: fail arm read
 initial = "inactive"\nfail_write = [0, 1, 2, 3, 4] => none
@@ -52,11 +52,11 @@ initial = "unconfigured"\nfail_read = [0, 2, 4]\nfail_write = [0, 2, 4] => none
 initial = "finalized"\nfail_read = [0, 2, 4]\nfail_write = [0, 2, 4] => none"#;
 
 /// The keys before the components below.
-pub const TOP: &str = "version = 1\nupdate_rate = 100\ncycles = 5\n";
+pub(crate) const TOP: &str = "version = 1\nupdate_rate = 100\ncycles = 5\n";
 
 /// Each component fails for itself, a sensor as the others. In one cycle reads are told before writes, and both as the
 /// components are described, whatever their names; at most as many as there are components.
-pub const OF_SEVERAL: &str = r#"component = [
+pub(crate) const OF_SEVERAL: &str = r#"component = [
     { name = "arm", kind = "actuator", fail_read = [1], joint = [{ name = "j1", vmax = 1 }] },
     { name = "leg", kind = "actuator", joint = [{ name = "j2", vmax = 1 }] },
 ]
@@ -105,7 +105,7 @@ component = [
 => 0: fail c0 write<1..16 *  | 0: fail c# write>"#;
 
 /// Failures stand before the joints, and the joints of a component that failed are told as all others.
-pub const WHOLE: &str = r#"version = 1
+pub(crate) const WHOLE: &str = r#"version = 1
 update_rate = 250
 cycles = 3
 [[component]]

@@ -2,7 +2,7 @@
 
 /// Whole documents: joints at rest and one that moved before the start, components without interfaces and none at all,
 /// each lifecycle state at start, joints with several kinds, references, and controllers that are loaded.
-pub const LISTS: &str = r#"version = 1
+pub(crate) const LISTS: &str = r#"version = 1
 update_rate = 100
 cycles = 2
 [[component]]

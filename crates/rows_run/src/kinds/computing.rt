@@ -4,7 +4,7 @@
 /// end both stop. A pid of a third of the rate counts the longer time, with all three gains: the joint may not move, so
 /// its error is what it is sent. Two that claim its reference are refused together; the one that has it keeps it, until
 /// one switch hands it over.
-pub const PIDS: &str = r#"version = 1
+pub(crate) const PIDS: &str = r#"version = 1
 update_rate = 100
 cycles = 6
 [[component]]
@@ -191,7 +191,7 @@ loop close: none"#;
 
 /// Points count from the cycle that takes them, and lead from the states of that cycle, also where those before are not
 /// finished.
-pub const TRAJECTORIES: &str = r#"version = 1
+pub(crate) const TRAJECTORIES: &str = r#"version = 1
 update_rate = 100
 cycles = 7
 [[component]]

@@ -3,7 +3,7 @@
 
 /// A joint that is commanded by its position or by its velocity; forwards, a passthrough with one that leads it, and
 /// mocks, one of which leads the passthrough too. A script follows, of a session that has begun.
-pub const ROBOT: &str = r#"version = 1
+pub(crate) const ROBOT: &str = r#"version = 1
 update_rate = 100
 cycles = 6
 [[component]]
@@ -50,7 +50,7 @@ session a
 
 /// Who claims what another has is refused, and takes its place in one switch. Then best efforts: what each leaves out,
 /// in the order of its parts; a restart that is not ready leaves; and lists with a name that stands twice.
-pub const REFUSALS: &str = "load fwd
+pub(crate) const REFUSALS: &str = "load fwd
 load other
 load speed
 configure fwd
@@ -146,7 +146,7 @@ loop close: none";
 /// none. It cannot leave while it is led; both leave together, and both come, the follower first. Then a restart by
 /// name of one that is led: as a best effort it does not leave, and so is active already; strictly it restarts alone,
 /// and what its leader gave it last is gone, until that one is due.
-pub const CHAINS: &str = "load pt
+pub(crate) const CHAINS: &str = "load pt
 load lead
 configure pt
 configure lead
@@ -237,7 +237,7 @@ loop close: none";
 
 /// What is asked of an active controller is refused with its cause, and mail that does not fit; once it is inactive it
 /// can be unloaded, and loaded again it has a new serial, behind which it is updated.
-pub const WHILE_ACTIVE: &str = "load fwd
+pub(crate) const WHILE_ACTIVE: &str = "load fwd
 load mk
 configure fwd
 configure mk
@@ -302,7 +302,7 @@ loop close: none";
 
 /// An update that fails leaves what it gave out before, for that cycle. Its controller stops alone, and the one that it
 /// led restarts: it is not chained any more, nothing stands where it was told what to do, and mail reaches it again.
-pub const FOLLOWER_RESTARTS: &str = "load pt
+pub(crate) const FOLLOWER_RESTARTS: &str = "load pt
 load nudge
 configure pt
 configure nudge

@@ -2,7 +2,7 @@
 
 /// Whose arm cannot be read in cycle 2, and is given up then, while the leg goes on. A script follows, of a session
 /// that has begun.
-pub const ARM_AND_LEG: &str = r#"version = 1
+pub(crate) const ARM_AND_LEG: &str = r#"version = 1
 update_rate = 100
 cycles = 5
 [[component]]
@@ -40,7 +40,7 @@ session a
 /// still written with what was given out before, and then it stops; it cannot come back, as the arm is not there any
 /// more. Beside an inactive leg a controller runs and moves nothing, until the leg is active; from then on the leg
 /// cannot be taken from it.
-pub const ONE_OF_TWO: &str = "load both
+pub(crate) const ONE_OF_TWO: &str = "load both
 configure both
 switch strict +both
 send both 0.5 2
@@ -116,7 +116,7 @@ loop close: none";
 /// Failures of two components in one cycle, a sensor among them, which who reads it misses; a chain of three whose
 /// middle loses its component: who leads it stops with it, and its follower goes on, unchained; and requests of which
 /// no cycle is left to decide.
-pub const OF_SEVERAL: &str = r#"version = 1
+pub(crate) const OF_SEVERAL: &str = r#"version = 1
 update_rate = 100
 cycles = 3
 [[component]]

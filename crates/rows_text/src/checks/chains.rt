@@ -9,7 +9,7 @@ use std::test::Fail;
 
 /// Tells the first controller of a loop, by its place; or that there is none.
 #[derive(Clone, Copy)]
-pub struct Loops;
+pub(crate) struct Loops;
 
 impl Teller for Loops {
     fn told(&self, alloc: Global, text: &str) -> Result<String, Fail> {
@@ -40,7 +40,7 @@ fn loop_in(alloc: Global, description: &Description) -> Result<Option<u32>, Fail
 /// other's reference behind one that claims neither; and two that claim one interface of a component, with one that
 /// claims a reference which it does not export. Then rows of as many controllers as there may be, each of which
 /// claims three references of the next.
-pub const CHAINS: &str = r#"=> no loop
+pub(crate) const CHAINS: &str = r#"=> no loop
 
 [[controller]]
 name = "a"

@@ -1,7 +1,7 @@
 //! Each count at its limit, and one past it.
 
 /// Sensors of one joint, joints that move, and mocks; and all states and commands of as many joints as there may be.
-pub const PARTS: &str = r#"=> valid
+pub(crate) const PARTS: &str = r#"=> valid
 
 <0..16 * [[component]]
 name = "c#"
@@ -89,7 +89,7 @@ state = ["effort", "velocity", "position"]
 => valid"#;
 
 /// As many joints as there may be, each commanded and measured by position.
-pub const JOINTS: &str = r#"version = 1
+pub(crate) const JOINTS: &str = r#"version = 1
 update_rate = 100
 cycles = 5
 [[component]]
@@ -104,7 +104,7 @@ state = ["position"]
 
 /// Behind these joints passthroughs of 32 claims and of one, forwards of 32 claims and of one, broadcasters of 32
 /// reads, and mocks of one read. Passthroughs export what they claim, the others nothing.
-pub const SHARES: &str = r#"<0..3 * [[controller]]
+pub(crate) const SHARES: &str = r#"<0..3 * [[controller]]
 name = "p#"
 type = "passthrough"
 claims = [(0..32 * "j#/position", )]
@@ -245,7 +245,7 @@ reads = ["j0/position"]
 => too_many claims"#;
 
 /// Behind these joints a controller that claims as many as one may claim, and one more.
-pub const CLAIMS: &str = r#"[[controller]]
+pub(crate) const CLAIMS: &str = r#"[[controller]]
 name = "c0"
 type = "forward"
 claims = [(0..32 * "j#/position", )]

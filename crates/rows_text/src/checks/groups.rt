@@ -1,10 +1,10 @@
 //! Groups of controllers, which a description of the second version may have, and its larger limits.
 
 /// The top of a description of the second version.
-pub const SECOND: &str = "version = 2\nupdate_rate = 100\ncycles = 5\n";
+pub(crate) const SECOND: &str = "version = 2\nupdate_rate = 100\ncycles = 5\n";
 
 /// Groups that fit, and each fault that they may have, alone and beside another.
-pub const GROUPS: &str = r#"[[controller]]
+pub(crate) const GROUPS: &str = r#"[[controller]]
 name = "m"
 type = "mock"
 [[group]]

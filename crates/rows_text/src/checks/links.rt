@@ -1,7 +1,7 @@
 //! What controllers claim and read: there or not there, in chains or in loops.
 
 /// Chains and loops, and what is not there.
-pub const LINKS: &str = r#"[[component]]
+pub(crate) const LINKS: &str = r#"[[component]]
 name = "arm"
 kind = "system"
 [[component.joint]]
@@ -85,7 +85,7 @@ claims = ["b/j1/position"]
 => chain_loop b"#;
 
 /// The same behind the arm.
-pub const LINKS_OF_AN_ARM: &str = r#"[[controller]]
+pub(crate) const LINKS_OF_AN_ARM: &str = r#"[[controller]]
 name = "f"
 type = "forward"
 claims = ["p/j1/position"]

@@ -1,7 +1,7 @@
 //! Names that stand twice.
 
 /// Names in each space.
-pub const NAMES: &str = r#"[[component]]
+pub(crate) const NAMES: &str = r#"[[component]]
 name = "x"
 kind = "system"
 [[component.joint]]
@@ -29,7 +29,7 @@ type = "mock"
 => name_twice a"#;
 
 /// The same behind the arm.
-pub const NAMES_OF_AN_ARM: &str = r#"[[component]]
+pub(crate) const NAMES_OF_AN_ARM: &str = r#"[[component]]
 name = "arm"
 kind = "system"
 [[component.joint]]

@@ -1,7 +1,7 @@
 //! Two faults in one description: the order of the checks decides, not that of the text.
 
 /// Two faults in each.
-pub const ORDERS: &str = r#"[[controller]]
+pub(crate) const ORDERS: &str = r#"[[controller]]
 name = "p"
 type = "passthrough"
 claims = ["p/j1/position"]
@@ -116,7 +116,7 @@ joint = []
 => bad_range component[0].joint"#;
 
 /// The same behind the arm.
-pub const ORDERS_OF_AN_ARM: &str = r#"[[controller]]
+pub(crate) const ORDERS_OF_AN_ARM: &str = r#"[[controller]]
 name = "a"
 type = "mock"
 update_rate = 10001

@@ -1,7 +1,7 @@
 //! Numbers and counts at the ends of their ranges, and just past them.
 
 /// The numbers of the top table, whatever their order.
-pub const RANGES_OF_THE_TOP: &str = r"version = 1
+pub(crate) const RANGES_OF_THE_TOP: &str = r"version = 1
 update_rate = 1
 cycles = 0
 => valid
@@ -42,7 +42,7 @@ cycles = 100001
 => bad_range cycles";
 
 /// Numbers and counts in components, joints and controllers.
-pub const RANGES: &str = r#"[[component]]
+pub(crate) const RANGES: &str = r#"[[component]]
 name = "arm"
 kind = "actuator"
 [[component.joint]]
@@ -167,7 +167,7 @@ claims = []
 => valid"#;
 
 /// The same behind the arm.
-pub const RANGES_OF_AN_ARM: &str = r#"[[component]]
+pub(crate) const RANGES_OF_AN_ARM: &str = r#"[[component]]
 name = "leg"
 kind = "sensor"
 joint = []

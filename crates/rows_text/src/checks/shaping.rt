@@ -1,7 +1,7 @@
 //! Controllers that shape a command, at the ends of their ranges, and just past them.
 
 /// Transmissions and differentials behind the arm: how many they claim, what these carry, and their reductions.
-pub const TRANSMISSIONS: &str = r#"[[controller]]
+pub(crate) const TRANSMISSIONS: &str = r#"[[controller]]
 name = "t"
 type = "transmission"
 claims = ["j1/position"]
@@ -125,7 +125,7 @@ reduction2 = 1
 => no_interface d j2/position"#;
 
 /// Limiters behind the arm: what they claim and read, and their limits.
-pub const LIMITERS: &str = r#"[[controller]]
+pub(crate) const LIMITERS: &str = r#"[[controller]]
 name = "l"
 type = "limiter"
 claims = ["j1/position"]

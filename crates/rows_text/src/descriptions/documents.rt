@@ -3,7 +3,7 @@
 /// One joint with a forward controller; seven controllers of six types round one joint; an arm of six joints with a
 /// trajectory and a broadcaster; and every key of the components, of a pid and of a mock, in another order than that
 /// in which they are visited.
-pub const WHOLE: &str = r#"version = 1
+pub(crate) const WHOLE: &str = r#"version = 1
 update_rate = 100
 cycles = 3
 \n\
@@ -198,7 +198,7 @@ controller p 50 [b/effort] [b/velocity] pid 6000000 5000000 -1 3000000 2500000
 controller m 7 [b/effort p/b/velocity b/position] [b/velocity b/position] mock 3 true [2 2] [4 3]"#;
 
 /// What stands where a key is missing, behind the keys that the top table must have.
-pub const DEFAULTS: &str = r#"=> 1 100 5
+pub(crate) const DEFAULTS: &str = r#"=> 1 100 5
 
 component = []
 controller = []

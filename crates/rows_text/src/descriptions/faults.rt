@@ -1,7 +1,7 @@
 //! Which fault of a text comes first.
 
 /// The top table alone.
-pub const AT_THE_TOP: &str = r#"=> bad_key version
+pub(crate) const AT_THE_TOP: &str = r#"=> bad_key version
 
 version = 1
 update_rate = 100
@@ -48,7 +48,7 @@ zzz = 1
 => bad_value version"#;
 
 /// Components, behind the keys that the top table must have.
-pub const OF_COMPONENTS: &str = r#"controller = [1]
+pub(crate) const OF_COMPONENTS: &str = r#"controller = [1]
 component = [1]
 => bad_value component[0]
 
@@ -185,7 +185,7 @@ zzz = 1
 => bad_key component[0].zzz"#;
 
 /// Controllers, behind the same keys.
-pub const OF_CONTROLLERS: &str = r#"[[controller]]
+pub(crate) const OF_CONTROLLERS: &str = r#"[[controller]]
 zzz = 1
 => bad_key controller[0].type
 

@@ -1,7 +1,7 @@
 //! Lists, some with one bad item.
 
 /// A joint, to which the cases add.
-pub const JOINT: &str = r#"version = 1
+pub(crate) const JOINT: &str = r#"version = 1
 update_rate = 100
 cycles = 5
 [[component]]
@@ -13,7 +13,7 @@ vmax = 1
 "#;
 
 /// Its lists.
-pub const OF_A_JOINT: &str = r#"command = ["position", "velocity", "effort"]
+pub(crate) const OF_A_JOINT: &str = r#"command = ["position", "velocity", "effort"]
 => read
 
 command = ["position", "position", "x"]
@@ -39,7 +39,7 @@ state = "velocity"
 => bad_value component[0].joint[0].state"#;
 
 /// A component.
-pub const COMPONENT: &str = r#"version = 1
+pub(crate) const COMPONENT: &str = r#"version = 1
 update_rate = 100
 cycles = 5
 [[component]]
@@ -49,7 +49,7 @@ joint = []
 "#;
 
 /// Its lists.
-pub const OF_A_COMPONENT: &str = r#"fail_read = [0, 4294967295, 0]
+pub(crate) const OF_A_COMPONENT: &str = r#"fail_read = [0, 4294967295, 0]
 => read
 
 fail_read = [1, 4294967296, 2]
@@ -75,7 +75,7 @@ fail_write = [nan]
 => float_given component[0].fail_write[0]"#;
 
 /// A mock.
-pub const MOCK: &str = r#"version = 1
+pub(crate) const MOCK: &str = r#"version = 1
 update_rate = 100
 cycles = 5
 [[controller]]
@@ -84,7 +84,7 @@ type = "mock"
 "#;
 
 /// Its lists.
-pub const OF_A_MOCK: &str = r#"not_ready = [3, {}]
+pub(crate) const OF_A_MOCK: &str = r#"not_ready = [3, {}]
 => bad_value controller[0].not_ready[1]
 
 fail_update = [1.0]

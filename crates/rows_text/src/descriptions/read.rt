@@ -12,7 +12,7 @@ use std::test::Fail;
 
 /// Shows all that is read of a description, a line for each table; or its first fault.
 #[derive(Clone, Copy)]
-pub struct Shows;
+pub(crate) struct Shows;
 
 impl Teller for Shows {
     fn told(&self, alloc: Global, text: &str) -> Result<String, Fail> {

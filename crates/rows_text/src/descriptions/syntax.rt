@@ -1,7 +1,7 @@
 //! What TOML writes another way, and which texts are no TOML.
 
 /// Texts with other spellings, byte order marks and control characters, each read or refused.
-pub const TEXTS: &str = "\"version\" = 1
+pub(crate) const TEXTS: &str = "\"version\" = 1
 'update_rate' = 1
 cycles = 5
 => read

@@ -10,7 +10,7 @@ use std::test::Fail;
 
 /// Tells the micro-units of the first joint's `vmax`, or the first fault.
 #[derive(Clone, Copy)]
-pub struct Vmax;
+pub(crate) struct Vmax;
 
 impl Teller for Vmax {
     fn told(&self, alloc: Global, text: &str) -> Result<String, Fail> {
@@ -38,7 +38,7 @@ fn vmax_of(description: &Description) -> Result<Fx, Fail> {
 }
 
 /// Values of `vmax`, with the micro-units that they are.
-pub const QUANTITIES: &str = r#"0 => 0
+pub(crate) const QUANTITIES: &str = r#"0 => 0
 -0 => 0
 7 => 7000000
 -7 => -7000000
@@ -72,7 +72,7 @@ nan => float_given component[0].joint[0].vmax
 -inf => float_given component[0].joint[0].vmax"#;
 
 /// Update rates.
-pub const UPDATE_RATES: &str = r#"update_rate = 0 => read
+pub(crate) const UPDATE_RATES: &str = r#"update_rate = 0 => read
 update_rate = 4294967295 => read
 update_rate = 4294967296 => bad_value update_rate
 update_rate = -1 => bad_value update_rate
@@ -82,7 +82,7 @@ update_rate = inf => float_given update_rate
 update_rate = "1" => bad_value update_rate"#;
 
 /// Names of a controller; the last ones have 64 and 65 bytes.
-pub const NAMES: &str = r#"name = "a" => read
+pub(crate) const NAMES: &str = r#"name = "a" => read
 name = "a_9Z" => read
 name = "" => bad_value controller[0].name
 name = "9a" => bad_value controller[0].name
@@ -94,7 +94,7 @@ name = "c234567890123456789012345678901234567890123456789012345678901234" => rea
 name = "c2345678901234567890123456789012345678901234567890123456789012345" => bad_value controller[0].name"#;
 
 /// Types of a controller that has all lists which some types need.
-pub const TYPES: &str = r#"type = "trajectory" => read
+pub(crate) const TYPES: &str = r#"type = "trajectory" => read
 type = "pid" => read
 type = "mock" => read
 type = "forward" => bad_key controller[0].reads
@@ -108,7 +108,7 @@ type = "servo" => bad_value controller[0].type
 type = "" => bad_value controller[0].type"#;
 
 /// States of a component.
-pub const STATES: &str = r#"initial = "unconfigured" => read
+pub(crate) const STATES: &str = r#"initial = "unconfigured" => read
 initial = "inactive" => read
 initial = "active" => read
 initial = "finalized" => read

@@ -1,7 +1,7 @@
 //! Lines behind `session a`, each with the call that it makes as it prints, or with its fault.
 
 /// Calls that have names, and words that stand for something.
-pub const CALLS_ON_NAMES: &str = r"load mk => load mk
+pub(crate) const CALLS_ON_NAMES: &str = r"load mk => load mk
 configure mk => configure mk
 cleanup mk => cleanup mk
 unload mk => unload mk
@@ -34,7 +34,7 @@ hw arm active now => bad_line 2
 hw 1 active => bad_line 2";
 
 /// Rates and waits.
-pub const WHOLE_NUMBERS: &str = r"rate mk 0 => rate mk 0
+pub(crate) const WHOLE_NUMBERS: &str = r"rate mk 0 => rate mk 0
 rate mk 000000000 => rate mk 0
 rate mk 007 => rate mk 7
 rate mk 10000 => rate mk 10000
@@ -56,7 +56,7 @@ await => bad_line 2
 await 1 2 => bad_line 2";
 
 /// Plain values.
-pub const VALUES: &str = r"send mk 0.5 -1 => send mk 0.500000 -1.000000
+pub(crate) const VALUES: &str = r"send mk 0.5 -1 => send mk 0.500000 -1.000000
 send mk 007 => send mk 7.000000
 send mk -0 => send mk 0.000000
 send mk -0.0 => send mk 0.000000
@@ -76,7 +76,7 @@ send => bad_line 2
 send 1k 1 => bad_line 2";
 
 /// Timed points.
-pub const POINTS: &str = r"send mk @1 0 => send mk @1 0.000000
+pub(crate) const POINTS: &str = r"send mk @1 0 => send mk @1 0.000000
 send mk @000000001 1 2 @999999999 3 4 => send mk @1 1.000000 2.000000 @999999999 3.000000 4.000000
 send mk @1 0 @2 1 @3 2 => send mk @1 0.000000 @2 1.000000 @3 2.000000
 send mk @0 1 => bad_line 2
@@ -94,7 +94,7 @@ send mk @1 x => bad_line 2
 send mk @1 1 @2 x => bad_line 2";
 
 /// What is to be activated and what deactivated.
-pub const SWITCHES: &str = r"switch strict +c -d +e => switch strict -d +c +e
+pub(crate) const SWITCHES: &str = r"switch strict +c -d +e => switch strict -d +c +e
 switch best +c -f -d => switch best -f -d +c
 switch best => switch best
 switch strict => switch strict
@@ -120,7 +120,7 @@ switch strict + c => bad_line 2
 switch best +c d => bad_line 2";
 
 /// Bytes before, between and behind words, and lines that are skipped.
-pub const BYTES: &str = "\
+pub(crate) const BYTES: &str = "\
 \\s\\sload\t \tmk \\t => load mk
 load mk\\r => load mk
 load mk \\r => load mk

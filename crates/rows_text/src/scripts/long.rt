@@ -1,7 +1,7 @@
 //! Limits of scripts, met and passed by one: how many sessions there are, and how many calls and turns.
 
 /// At most 10,000 calls and turns, and 8 sessions.
-pub const CALLS_AND_TURNS: &str = r"session a
+pub(crate) const CALLS_AND_TURNS: &str = r"session a
 <0..10000 * load c
 >\
 => 1 and 10000
@@ -71,7 +71,7 @@ schedule
 => bad_line 9";
 
 /// At most 128 words of a switch, 32 values, 64 points and 64 bytes of a name.
-pub const SIZES_OF_CALLS: &str = r"session a
+pub(crate) const SIZES_OF_CALLS: &str = r"session a
 switch strict<0..128 * \s+c>
 => 1 and 1
 
@@ -146,7 +146,7 @@ send c<1..66 *  @# 0>\
 => too_many 2";
 
 /// At most 65,536 bytes of a line that is not skipped.
-pub const LONG_LINES: &str = r"session a
+pub(crate) const LONG_LINES: &str = r"session a
 load<0..65530 * \s>mk
 => 1 and 1
 

@@ -9,7 +9,7 @@ use std::test::Fail;
 
 /// Tells the text that a script prints, where every form is accepted.
 #[derive(Clone, Copy)]
-pub struct Prints;
+pub(crate) struct Prints;
 
 impl Teller for Prints {
     fn told(&self, alloc: Global, text: &str) -> Result<String, Fail> {
@@ -37,7 +37,7 @@ fn without_end(alloc: Global, printed: &[u8]) -> Result<String, Fail> {
 
 /// A load; calls of every form, of which most stand as they print, with a session that makes none and with turns; a
 /// schedule without turns, which is left out; and nothing.
-pub const PRINTED: &str = r"session a
+pub(crate) const PRINTED: &str = r"session a
 load mk
 => session a
 load mk

@@ -2,7 +2,7 @@
 //! bar each.
 
 /// Sessions with their calls.
-pub const SESSIONS: &str = r"=> empty
+pub(crate) const SESSIONS: &str = r"=> empty
 
 \n\
 # x
@@ -69,7 +69,7 @@ await 1
 => no_session 3";
 
 /// Schedules, and where they may stand.
-pub const SCHEDULES: &str = r"schedule
+pub(crate) const SCHEDULES: &str = r"schedule
 => empty
 
 schedule
@@ -166,7 +166,7 @@ step b
 => bad_line 1";
 
 /// Faults, some of which a later one follows.
-pub const ONE_FAULT_COUNTS: &str = r"load 1a
+pub(crate) const ONE_FAULT_COUNTS: &str = r"load 1a
 => bad_line 1
 
 rate mk 10001
@@ -197,7 +197,7 @@ close
 => bad_line 1";
 
 /// The forms of a script that begins further below in its document, and of each fault some.
-pub const FORMS_FURTHER_BELOW: &str = r"=> empty
+pub(crate) const FORMS_FURTHER_BELOW: &str = r"=> empty
 
 session a
 load mk

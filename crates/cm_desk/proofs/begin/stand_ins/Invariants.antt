@@ -1,5 +1,5 @@
 use Rattle.std.proofs.Common.{◌≡◌, ◌++◌, drop}
-use Rattle.cm_desk.specs.CycleResources.{stand_ins_for}
+use Rattle.cm_desk.specs.Works.{stand_ins_for}
 use Rattle.cm_desk.proofs.begin.stand_ins.Given as goal
 
 -- the names so far, and those of the places that are left, are all

@@ -1,4 +1,4 @@
-use Rattle.cm_desk.proofs.ReadyLemmas.{ready_already}
+use Rattle.cm_resources.proofs.ReadyLemmas.{ready_already}
 use Rattle.cm_desk.proofs.begin.take_memory.Goals as goal
 
 pub needs-requires-clause-home : goal.needs-requires-clause-home

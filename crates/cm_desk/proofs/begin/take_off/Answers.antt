@@ -5,8 +5,8 @@ use Rattle.cm_model.specs.Cycle.{begun, members_in_order, without_mail_off}
 use Rattle.cm_model.specs.State.{Loaded}
 use Rattle.cm_slots.specs.Slots.{Slotted, IsRunOf}
 use Rattle.rt_flight.specs.declared.context.CycleContext.{CycleContext}
-use Rattle.cm_desk.specs.CycleNeeds.{IsFittedOut}
-use Rattle.cm_desk.specs.declared.resources.CycleResources.{CycleResources}
+use Rattle.cm_resources.specs.CycleNeeds.{IsFittedOut}
+use Rattle.cm_resources.specs.declared.resources.CycleResources.{CycleResources}
 use Rattle.cm_desk.proofs.BeginLemmas.{all_timed}
 use Rattle.cm_desk.proofs.TakeOffLemmas.{lines_for, lines_stay, lent_so, cells_so, mails_so, stands_room}
 use Rattle.cm_desk.proofs.TakeOffLemmas.{is_run, run_count, can_fill, aloft_over, equipped, ready_in}

@@ -7,7 +7,7 @@ use Rattle.cm_slots.specs.Slots.{Slotted}
 use Rattle.rt_flight.specs.Flights.{TellsNothing}
 use Rattle.rt_flight.specs.declared.context.CycleContext.{CycleContext}
 use Rattle.rt_flight.specs.declared.robot.Robot.{Robot}
-use Rattle.cm_desk.specs.CycleResources.{place_among}
+use Rattle.cm_resources.specs.CycleResources.{place_among}
 use Rattle.cm_desk.proofs.LandLemmas.{can_leave, can_park, can_settle, flags}
 use Rattle.cm_desk.proofs.LandLemmas.{fitted, ordered, erred, lines, shows, not_so}
 use Rattle.cm_desk.proofs.land.bring_home.Goals as goal

@@ -1,10 +1,15 @@
-use Rattle.std.proofs.Common.{◌≡◌, true, All, length, subst, arith}
+use Rattle.std.proofs.Common.{◌≡◌, true, All, length, subst, sym, arith}
 use Rattle.std.specs.Prelude.{is_none}
 use Rattle.std.proofs.lemmas.List.{with_items_is}
 use Rattle.console_session.specs.Sessions.{next_of}
-use Rattle.live_run.specs.Sessions.{EachHasRun}
+use Rattle.live_run.specs.Sessions.{IsAtItsStart, EachHasRun}
 use Rattle.live_run.proofs.SessionLemmas.{ports_have_followed}
 use Rattle.live_run.proofs.run.live_by.Goals as goal
+
+-- each session is at its start, as the caller says
+pub run_all-requires-clause-sessions : goal.run_all-requires-clause-sessions
+run_all-requires-clause-sessions g c κs within =
+    subst (All (λ s. IsAtItsStart (g.P.Port.tells s.1) s.0)) (sym c.as_mut_slice.ensures.value) c.requires.sessions
 
 -- all sessions have ended, so their ports are those of sessions that followed their lines
 pub returns-clause-ports : goal.returns-clause-ports

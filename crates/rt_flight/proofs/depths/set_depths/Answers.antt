@@ -1,11 +1,18 @@
-use Rattle.std.proofs.Common.{◌+◌, ◌<◌, ◌≤◌, ◌^◌, length, inl, inr, arith}
+use Rattle.std.proofs.Common.{◌+◌, ◌<◌, ◌≤◌, ◌^◌, [], length, take, drop, inl, inr, sym, ap, ◌∙◌, subst, arith}
 use Rattle.std.proofs.lemmas.List.{get_or_default}
-use Rattle.rt_flight.proofs.PutDownLemmas.{all_deepened, depths_fit, goes_on, none_so_far, put_down, some_depth}
+use Rattle.rt_flight.specs.Cells.{CellFacts}
+use Rattle.rt_flight.specs.Depths.{places_in, IsFlagged}
+use Rattle.rt_flight.proofs.PutDownLemmas.{all_deepened, depths_fit, flags_go_on, goes_on, none_so_far}
+use Rattle.rt_flight.proofs.PutDownLemmas.{put_down, some_depth}
 use Rattle.rt_flight.proofs.depths.set_depths.Goals as goal
 use Rattle.rt_flight.proofs.depths.set_depths.Goals.{then-starts_depth, else-starts_depth}
 
 pub loop-i-init : goal.loop-i-init
-loop-i-init g c = record { so_far = none_so_far c.args.relations.now c.args.cells.now }
+loop-i-init g c =
+    record { so_far = none_so_far c.args.relations.now c.args.cells.now; flagged = c.none-layer.ensures }
+
+pub starts_depth-requires-clause-layer : goal.starts_depth-requires-clause-layer
+starts_depth-requires-clause-layer g c = c.loop-i.invariant.flagged
 
 -- the cells stand where they stood
 pub starts_depth-requires-clause-within : goal.starts_depth-requires-clause-within
@@ -51,6 +58,24 @@ loop-i-preserved g c =
           (elim join.branch [
             | then-starts_depth w ↦ inl (w.if-starts_depth.true, (w.first-is, w.depths-is))
             | else-starts_depth w ↦ inr (w.if-starts_depth.false, (w.first-is, w.depths-is))
+          ]);
+      flagged = flags_go_on c.args.relations.now c.args.cells.now l.cells l.first l.i l.depths l.invariant.so_far
+          within c.starts_depth.result c.starts_depth.ensures _ c.set_depth.new.self join.first join.depths
+          (get_or_default _ _ _ _ within) c.set_depth.ensures join.layer.flags c.insert.new.self.flags c.place.result
+          (c.place.ensures ∙ ap (λ (d : CellFacts). d.workspace.place) (get_or_default _ _ _ _ within))
+          c.insert.ensures
+          (elim join.branch [
+            | then-starts_depth w ↦
+                inl (
+                  subst (λ x. IsFlagged x.flags []) (sym w.layer-is) w.none-layer-then-starts_depth.ensures,
+                  w.first-is,
+                )
+            | else-starts_depth w ↦
+                inr (
+                  subst (λ x. IsFlagged x.flags (drop l.first (take l.i (places_in l.cells)))) (sym w.layer-is)
+                      l.invariant.flagged,
+                  w.first-is,
+                )
           ]);
     }
 

@@ -30,10 +30,10 @@ pub loop-member-preserved : goal.loop-member-preserved
 loop-member-preserved c =
     let scene = set_scene c.args.setting.now in
     record {
-      long = c.in_ok-set-2.ensures.length;
+      long = c.in_ok-join.ensures.length;
       rest = joining-more scene (set_of c.in_ok-on.on) (places_of c.args.coming.now) (set_of c.loop-member.set)
-          (set_of c.in_ok-set-2.set) c.loop-member.dropped.items c.join.new.dropped.items
+          (set_of c.join.new.set) c.loop-member.dropped.items c.join.new.dropped.items
           c.deref-member-items.result.now c.loop-member.member-index (record { serial = 0; place = 0 })
-          c.loop-member-test.true c.in_ok-on.ensures.set c.in_ok-set-2.ensures.joined
+          c.loop-member-test.true c.in_ok-on.ensures.set c.in_ok-join.ensures.joined
           ∙ c.loop-member.invariant.rest;
     }

@@ -3,14 +3,14 @@ use Rattle.std.specs.Prelude.{option_map}
 use Rattle.cm_model.specs.BestEffort.{faulty}
 use Rattle.cm_model.specs.Scene.{loaded_all}
 use Rattle.switch_plan.specs.Lists.{list_fault, first_dropped}
-use Rattle.switch_plan.specs.View.{scene_of}
+use Rattle.switch_plan.specs.Settings.{set_scene}
 use Rattle.switch_plan.proofs.PickLemmas.{first_of_faulty, none_left_out}
 use Rattle.switch_plan.proofs.lists.look_through.Goals as goal
 
 -- the first that was dropped comes first of what speaks against the list
 pub returns-in-Some : goal.returns-in-Some
 returns-in-Some c =
-    let scene = scene_of c.args.view.now in
+    let scene = set_scene c.args.setting.now in
     let fault = list_fault scene (option_map (λ set. set.now) c.args.leaving) in
     let gone : c.sifted.new.dropped.items ≡ faulty fault [] c.args.picks.now =
     c.in_ok-members.ensures.dropped
@@ -20,7 +20,7 @@ returns-in-Some c =
 -- none was dropped
 pub returns-in-None : goal.returns-in-None
 returns-in-None c =
-    let scene = scene_of c.args.view.now in
+    let scene = set_scene c.args.setting.now in
     let fault = list_fault scene (option_map (λ set. set.now) c.args.leaving) in
     let gone : c.sifted.new.dropped.items ≡ faulty fault [] c.args.picks.now =
     c.in_ok-members.ensures.dropped

@@ -8,16 +8,15 @@ use Rattle.cm_model.specs.Switches.{with_name}
 use Rattle.cm_model.specs.declared.cause.Cause.TheVariants as cause
 use Rattle.switch_plan.specs.Calls.Members.{HaveMet}
 use Rattle.switch_plan.specs.Lists.{list_fault}
-use Rattle.switch_plan.specs.View.{scene_of}
+use Rattle.switch_plan.specs.Settings.{set_scene}
 use Rattle.switch_plan.proofs.PickLemmas.{names_more, faultless_dropped, faultless_kept, faulty_dropped, faulty_kept}
 use Rattle.switch_plan.proofs.PickLemmas.{names_same, faultless_group, faulty_group, dropped_more, found_more}
 use Rattle.switch_plan.proofs.lists.sifted.Goals as goal
-use Rattle.switch_plan.proofs.lists.sifted.Goals.{in-Some+in_ok-name-in-Some+in_ok-push-in-Some}
-use Rattle.switch_plan.proofs.lists.sifted.Goals.{in-None+in_ok-push_seen-in-None}
+use Rattle.switch_plan.proofs.lists.sifted.Goals.{in-Some+in_ok-drop_for-in-Some, in-None+in_ok-push_seen-in-None}
 
 pub loop-index-preserved-in-Group : goal.loop-index-preserved-in-Group
 loop-index-preserved-in-Group c =
-    let scene = scene_of c.args.view.now in
+    let scene = set_scene c.args.setting.now in
     let picks = c.args.picks.now in
     let i = c.loop-index.index in
     let pick = c.index-picks-index.result in
@@ -35,15 +34,15 @@ loop-index-preserved-in-Group c =
           ∙ c.loop-index.invariant.members;
       dropped =
           dropped_more c.loop-index.dropped.items _
-          (faulty fault (picked_names (take (i + 1) picks)) (drop (i + 1) picks)) _ (with_name name cause.NoGroup)
-          c.in_ok-push-in-Group.ensures.items c.in_ok-no_group-in-Group.ensures
+          (faulty fault (picked_names (take (i + 1) picks)) (drop (i + 1) picks)) (with_name name cause.NoGroup)
+          c.in_ok-drop_for-in-Group.ensures
           ∙ ap (λ more. c.loop-index.dropped.items ++ more) (faulty_group picks i pick name within is fault)
           ∙ c.loop-index.invariant.dropped;
     }
 
 pub loop-index-preserved : goal.loop-index-preserved
 loop-index-preserved c =
-    let scene = scene_of c.args.view.now in
+    let scene = set_scene c.args.setting.now in
     let picks = c.args.picks.now in
     let i = c.loop-index.index in
     let pick = c.index-picks-index.result in
@@ -56,7 +55,7 @@ loop-index-preserved c =
     let names = picked_names (take (i + 1) picks) in
     let rest = drop (i + 1) picks in
     elim c.match-list_fault.branch [
-      | in-Some+in_ok-name-in-Some+in_ok-push-in-Some w ↦
+      | in-Some+in_ok-drop_for-in-Some w ↦
           let reason = w.in-Some.cause in
           let some = sym c.list_fault.ensures ∙ w.in-Some.is in
           record {
@@ -69,9 +68,8 @@ loop-index-preserved c =
                 ∙ c.loop-index.invariant.members);
             dropped =
                 rw w.dropped-is
-                (dropped_more c.loop-index.dropped.items _ (faulty fault names rest) _ (with_name name reason)
-                w.in_ok-push-in-Some.ensures.items
-                (ap (λ n. with_name n reason) w.in_ok-name-in-Some.ensures.cases)
+                (dropped_more c.loop-index.dropped.items _ (faulty fault names rest) (with_name name reason)
+                w.in_ok-drop_for-in-Some.ensures
                 ∙ ap (λ more. c.loop-index.dropped.items ++ more)
                 (faulty_dropped picks i pick name within is fault reason some)
                 ∙ c.loop-index.invariant.dropped);

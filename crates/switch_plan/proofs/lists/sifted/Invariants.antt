@@ -11,16 +11,17 @@ use Rattle.switch_plan.proofs.lists.sifted.Given as goal
 -- what was found so far, and what is found of the rest, are all
 abbrev pub invariant-loop-index : goal.invariant-loop-index
 invariant-loop-index l = record {
-  met : HaveMet (scene_of l.view) (picked_names (take l.index l.picks)) l.met;
-  within : All (λ m. m.place < length (controllers_in (scene_of l.view))) l.list.items;
+  met : HaveMet (scene_of l.setting.view) (picked_names (take l.index l.picks)) l.met;
+  within : All (λ m. m.place < length (controllers_in (scene_of l.setting.view))) l.list.items;
   members : l.list.items
-      ++ loaded_all (scene_of l.view)
-      (faultless (list_fault (scene_of l.view) (option_map (λ set. set.now) l.leaving))
+      ++ loaded_all (scene_of l.setting.view)
+      (faultless (list_fault (scene_of l.setting.view) (option_map (λ set. set.now) l.leaving))
       (picked_names (take l.index l.picks)) (drop l.index l.picks))
-      ≡ loaded_all (scene_of l.view)
-      (faultless (list_fault (scene_of l.view) (option_map (λ set. set.now) l.leaving)) [] l.picks);
+      ≡ loaded_all (scene_of l.setting.view)
+      (faultless (list_fault (scene_of l.setting.view) (option_map (λ set. set.now) l.leaving)) [] l.picks);
   dropped : l.dropped.items
-      ++ faulty (list_fault (scene_of l.view) (option_map (λ set. set.now) l.leaving))
+      ++ faulty (list_fault (scene_of l.setting.view) (option_map (λ set. set.now) l.leaving))
       (picked_names (take l.index l.picks)) (drop l.index l.picks)
-      ≡ l.fn.dropped.items ++ faulty (list_fault (scene_of l.view) (option_map (λ set. set.now) l.leaving)) [] l.picks;
+      ≡ l.fn.dropped.items
+      ++ faulty (list_fault (scene_of l.setting.view) (option_map (λ set. set.now) l.leaving)) [] l.picks;
 }

@@ -4,14 +4,14 @@ use Rattle.std.proofs.lemmas.Bool.{and_parts}
 use Rattle.cm_model.specs.Cycle.{begun}
 use Rattle.cm_model.specs.State.{State}
 use Rattle.cm_model.specs.declared.reply.Reply.TheVariants as reply
-use Rattle.cm_desk.specs.CycleResources.{base_of, stand_ins_for}
+use Rattle.cm_resources.specs.CycleResources.{base_of}
 use Rattle.cm_desk.specs.Begin.{none_waits, CanTakeOff, HasTakenOff}
-use Rattle.cm_desk.specs.Works.{IsKept, state_with}
-use Rattle.cm_desk.specs.declared.resources.CycleResources.{CycleResources}
+use Rattle.cm_desk.specs.Works.{stand_ins_for, IsKept, state_with}
+use Rattle.cm_resources.specs.declared.resources.CycleResources.{CycleResources}
 use Rattle.cm_desk.proofs.AfterLemmas.{at_home, kept_ready, kept_with_room}
 use Rattle.cm_desk.proofs.BeginLemmas.{begins_down, nil_where, nobody_for, nothing_waits, quiet_boundary}
 use Rattle.cm_desk.proofs.BeginLemmas.{quiet_decisions, HasDecided, has_decided, view_flown}
-use Rattle.cm_desk.proofs.OrderLemmas.{order_within}
+use Rattle.cm_resources.proofs.OrderLemmas.{order_within}
 use Rattle.cm_desk.proofs.TakeOffLemmas.{can_take_off, kept_off}
 use Rattle.cm_desk.proofs.Insides.{base_in, state_of}
 use Rattle.cm_desk.proofs.works.Works.begin.Given.{Over}

@@ -8,16 +8,16 @@ use Rattle.cm_places.specs.Placed.{placed_of}
 use Rattle.request_plan.specs.Plans.{IsPlanOf}
 use Rattle.sound_laws.proofs.FallbackLemmas.{begin_leaves_none}
 use Rattle.stop_plan.specs.Ending.{members_in_order}
-use Rattle.cm_desk.specs.CycleResources.{base_of, stand_ins_for, IsMadeReady}
+use Rattle.cm_resources.specs.CycleResources.{base_of, IsMadeReady}
 use Rattle.cm_desk.specs.Begin.{CanTakeOff, HasTakenOff}
-use Rattle.cm_desk.specs.ActiveSet.{IsListedOf}
-use Rattle.cm_desk.specs.CycleNeeds.{AreNeeds}
-use Rattle.cm_desk.specs.Works.{IsKept, state_with}
-use Rattle.cm_desk.specs.declared.resources.CycleResources.{CycleResources}
+use Rattle.cm_resources.specs.ActiveSet.{IsListedOf}
+use Rattle.cm_resources.specs.CycleNeeds.{AreNeeds}
+use Rattle.cm_desk.specs.Works.{stand_ins_for, IsKept, state_with}
+use Rattle.cm_resources.specs.declared.resources.CycleResources.{CycleResources}
 use Rattle.cm_desk.proofs.AfterLemmas.{at_home, used_view, kept_ready, err_holds}
 use Rattle.cm_desk.proofs.ForgottenLemmas.{kept_forgotten, kept_then, left_then}
 use Rattle.cm_desk.proofs.BeginLemmas.{begins_down, planned_order, HasDecided, has_decided, order_decided, view_flown}
-use Rattle.cm_desk.proofs.OrderLemmas.{order_loaded}
+use Rattle.cm_resources.proofs.OrderLemmas.{order_loaded}
 use Rattle.cm_desk.proofs.TakeOffLemmas.{can_take_off, kept_off}
 use Rattle.cm_desk.proofs.Insides.{base_in, state_of}
 use Rattle.cm_desk.proofs.works.Works.begin_anew.Given.{Over}

@@ -1,7 +1,7 @@
 use Rattle.std.proofs.Common.{map, refl, sym, subst, vec_capacity, ap, ◌∙◌}
 use Rattle.cm_model.specs.State.{State}
 use Rattle.cm_document.specs.declared.description.Description.{Description}
-use Rattle.cm_desk.specs.CycleResources.{base_of}
+use Rattle.cm_resources.specs.CycleResources.{base_of}
 use Rattle.cm_desk.specs.Works.{IsKept}
 use Rattle.cm_desk.proofs.BootLemmas.{booted, kept_at_boot}
 use Rattle.cm_desk.proofs.works.Works.boot.Goals as goal

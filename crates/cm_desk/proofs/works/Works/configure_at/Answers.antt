@@ -4,7 +4,8 @@ use Rattle.cm_model.specs.Order.{divisor}
 use Rattle.cm_model.specs.State.{Loaded, is_active}
 use Rattle.cm_desk.proofs.ChangeLemmas.{fit_after_configure}
 use Rattle.cm_desk.proofs.KeptLemmas.{kept_after_change}
-use Rattle.cm_desk.proofs.WorksLemmas.{there, within_there, kept_there, can_be_configured, still_as_described}
+use Rattle.cm_desk.proofs.WorksLemmas.{there, within_there, can_be_configured, still_as_described}
+use Rattle.cm_resources.proofs.DescribedLemmas.{kept_there}
 use Rattle.cm_desk.proofs.WorksLemmas.{still_divided, divided_here, configured_slots, configured_there}
 use Rattle.cm_desk.proofs.Insides.{base_in, state_of}
 use Rattle.cm_desk.proofs.works.Works.configure_at.Goals as goal

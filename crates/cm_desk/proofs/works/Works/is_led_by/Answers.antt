@@ -5,8 +5,8 @@ use Rattle.cm_document.proofs.ValidParts.{few_controllers}
 use Rattle.cm_model.specs.Scene.{is_chained_in}
 use Rattle.cm_model.specs.State.{State, active}
 use Rattle.chain_order.specs.Links.{leaders_of, linked}
-use Rattle.cm_desk.proofs.CommitLemmas.{places_within}
-use Rattle.cm_desk.proofs.ActiveSetLemmas.{led_by}
+use Rattle.cm_resources.proofs.CommitLemmas.{places_within}
+use Rattle.cm_resources.proofs.ActiveSetLemmas.{led_by}
 use Rattle.cm_desk.proofs.EndLemmas.{leaders_count}
 use Rattle.cm_desk.proofs.Insides.{state_of}
 use Rattle.cm_desk.proofs.works.Works.is_led_by.Goals as goal

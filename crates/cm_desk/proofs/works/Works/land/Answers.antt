@@ -3,9 +3,9 @@ use Rattle.std.proofs.lemmas.Option.{same_Some}
 use Rattle.cm_model.specs.Cycle.{cycle}
 use Rattle.cm_model.specs.State.{State}
 use Rattle.cm_slots.specs.Slots.{Slotted}
-use Rattle.cm_desk.specs.CycleResources.{base_of, stand_ins_for}
+use Rattle.cm_resources.specs.CycleResources.{base_of}
 use Rattle.cm_desk.specs.End.{CanLand}
-use Rattle.cm_desk.specs.Works.{IsKept}
+use Rattle.cm_desk.specs.Works.{stand_ins_for, IsKept}
 use Rattle.cm_desk.proofs.AfterLemmas.{ended_view}
 use Rattle.cm_desk.proofs.FallbackLemmas.{stand_ins_after}
 use Rattle.cm_desk.proofs.LandLemmas.{comes_home, kept_home}

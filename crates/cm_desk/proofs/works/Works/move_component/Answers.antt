@@ -5,7 +5,7 @@ use Rattle.cm_model.specs.Cycle.{moved}
 use Rattle.cm_model.specs.State.{State}
 use Rattle.cm_model.specs.Steady.{IsSteady}
 use Rattle.cm_hardware.specs.Wiring.{Mounted}
-use Rattle.cm_desk.specs.CycleResources.{base_of}
+use Rattle.cm_resources.specs.CycleResources.{base_of}
 use Rattle.cm_desk.specs.Works.{IsKept}
 use Rattle.cm_desk.proofs.AfterLemmas.{at_home, rewired, held_when_steady, view_moved, kept_moved}
 use Rattle.cm_desk.proofs.Insides.{base_in, state_of}

@@ -1,7 +1,7 @@
 use Rattle.std.proofs.Common.{vec_capacity, refl, sym, ap, ◌∙◌}
 use Rattle.rt_flight.specs.declared.context.CycleContext.{CycleContext}
 use Rattle.rt_flight.specs.declared.robot.Robot.{Robot}
-use Rattle.cm_desk.specs.CycleResources.{stand_ins_for}
+use Rattle.cm_desk.specs.Works.{stand_ins_for}
 use Rattle.cm_desk.proofs.ActingLemmas.{stands_so, seen_so}
 use Rattle.cm_desk.proofs.AfterLemmas.{at_home}
 use Rattle.cm_desk.proofs.Insides.{state_of}

@@ -5,7 +5,8 @@ use Rattle.cm_document.proofs.ValidParts.{few_controllers}
 use Rattle.cm_model.specs.Commit.{seen}
 use Rattle.cm_model.specs.State.{State}
 use Rattle.cm_desk.proofs.ActingLemmas.{seen_as}
-use Rattle.cm_desk.proofs.WorksLemmas.{described_there, stands_here}
+use Rattle.cm_resources.proofs.DescribedLemmas.{described_there}
+use Rattle.cm_desk.proofs.WorksLemmas.{stands_here}
 use Rattle.cm_desk.proofs.Insides.{state_of}
 use Rattle.cm_desk.proofs.works.Works.seen.Goals as goal
 

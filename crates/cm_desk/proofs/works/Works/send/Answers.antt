@@ -2,11 +2,12 @@ use Rattle.std.proofs.Common.{◌≡◌, ◌<◌, Some, refl, subst}
 use Rattle.std.specs.Prelude.{length, slice_get, slice_set}
 use Rattle.cm_model.specs.Console.{send_refusals, after_send, reply_on}
 use Rattle.cm_model.specs.declared.reply.Reply.TheVariants as reply
-use Rattle.cm_desk.specs.Works.{IsAsDescribed}
+use Rattle.cm_resources.specs.Described.{IsAsDescribed}
 use Rattle.cm_desk.proofs.ChangeLemmas.{fit_sent}
 use Rattle.cm_desk.proofs.KeptLemmas.{kept_after_change}
 use Rattle.cm_desk.proofs.SendLemmas.{allowed_fits}
-use Rattle.cm_desk.proofs.WorksLemmas.{stands_at, divided_here, changed_there, described_there}
+use Rattle.cm_desk.proofs.WorksLemmas.{stands_at, divided_here, changed_there}
+use Rattle.cm_resources.proofs.DescribedLemmas.{described_there}
 use Rattle.cm_desk.proofs.Insides.{base_in, state_of}
 use Rattle.cm_desk.proofs.works.Works.send.Goals as goal
 

@@ -1,7 +1,7 @@
 use Rattle.std.proofs.Common.{refl, sym, subst, ◌∙◌, vec_capacity}
 use Rattle.cm_model.specs.Order.{set_of}
 use Rattle.cm_model.specs.State.{State}
-use Rattle.cm_desk.specs.CycleResources.{base_of}
+use Rattle.cm_resources.specs.CycleResources.{base_of}
 use Rattle.cm_desk.specs.Works.{IsKept}
 use Rattle.cm_desk.proofs.ActingLemmas.{can_switch}
 use Rattle.cm_desk.proofs.AfterLemmas.{at_home, rewired, view_committed, kept_committed}

@@ -1,0 +1,10 @@
+pub mod ActiveSetLemmas
+pub mod NeedsLemmas
+pub mod ReadyLemmas
+pub mod ActiveLemmas
+pub mod DescribedLemmas
+pub mod StayLemmas
+pub mod CommitLemmas
+pub mod OrderLemmas
+pub mod StartLemmas
+pub mod Crossing

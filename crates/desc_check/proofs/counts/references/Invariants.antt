@@ -1,8 +1,0 @@
-use Rattle.std.proofs.Common.{◌≡◌, length, take}
-use Rattle.cm_document.specs.Links.{references_of}
-use Rattle.desc_check.specs.Counts.{counted}
-use Rattle.desc_check.proofs.counts.references.Given as goal
-
--- the references of the controllers so far
-abbrev pub invariant-loop-controller : goal.invariant-loop-controller
-invariant-loop-controller l = l.count ≡ counted (length (references_of (take l.controller-index l.controllers)))

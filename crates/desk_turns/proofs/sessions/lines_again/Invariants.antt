@@ -1,6 +1,0 @@
-use Rattle.std.proofs.Common.{◌≡◌, take}
-use Rattle.desk_turns.proofs.sessions.lines_again.Given as goal
-
--- the lines so far
-abbrev pub invariant-loop-line : goal.invariant-loop-line
-invariant-loop-line l = l.copies.items ≡ take l.line-index l.lines
