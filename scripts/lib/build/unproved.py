@@ -35,6 +35,11 @@ def place_of(name):
     return TOP / "crates" / name / "out/try" / name
 
 
+def whole_kit_note(name):
+    """The file that stands beside a program if it had to be compiled over the whole kit."""
+    return place_of(name).with_suffix(".over_the_whole_kit")
+
+
 def is_current(of):
     """Whether the program is newer than its sources, than the kit, and than what says how it is compiled."""
     built = place_of(of.name)
@@ -45,7 +50,10 @@ def is_current(of):
 
 
 def compile_program(of, keep):
-    """Compiles the program over the shorter kit, or over the whole if that lacks something. Returns what was said."""
+    """Compiles the program over the shorter kit, or over the whole if that lacks something, and notes which. Returns
+    what was said.
+    """
+    whole_kit_note(of.name).unlink(missing_ok=True)
     with read_ahead(), tempfile.TemporaryDirectory(prefix="try-") as folder:
         short, words = Path(folder, "kit"), kit_words(of)
         said = compiled(of, folder, keep, shorter_kit(words, short, reached(), bodied=False))
@@ -53,6 +61,7 @@ def compile_program(of, keep):
             return said
     say(f"{LIST.relative_to(TOP)} lacks something, so it compiles over the whole kit")
     keep.unlink(missing_ok=True)
+    whole_kit_note(of.name).touch()
     with tempfile.TemporaryDirectory(prefix="try-") as folder:
         return compiled(of, folder, keep, words)
 

@@ -1,16 +1,18 @@
 """Answers: do README's first commands do what it says of them? Nothing that they run is proved.
 
 `./try run < examples/switch.cm` is to print the example's trace, and `./try draw < examples/failures.cm` the picture.
-The first of them may say in one line on standard error that it compiles; a second line would say that the list of the
-kit's sources went stale, and takes a minute. The second command says nothing. Then each command, and each tool of
-scripts, helps who asks for it. Last come lines for a shell, each with what it prints and tells: over links to the
-commands, a folder in place of a document, wrong words and the like. Prints a line for each, and last `N passed, M
-failed`. The exit status is 1 if one failed.
+The first of them may say in one line on standard error that it compiles. The second command says nothing. Neither
+program was compiled over the whole kit, which takes minutes: else the list of the kit's sources went stale
+(`scripts/build reached`). Then each command, and each tool of scripts, helps who asks for it. Last come lines for a
+shell, each with what it prints and tells: over links to the commands, a folder in place of a document, wrong words and
+the like. Prints a line for each, and last `N passed, M failed`. The exit status is 1 if one failed.
 """
 
 import tempfile
 from pathlib import Path
 
+from ..build.shorter_kit import LIST
+from ..build.unproved import PROGRAMS, whole_kit_note
 from ..documents import SEPARATOR
 from ..tool import Tally
 from ..tree import TOP
@@ -66,6 +68,11 @@ def reason(word, document, expected, lines):
     return None if is_so else f"status {status}, and {said[:300].decode(errors='replace')}"
 
 
+def is_stale(name):
+    """Returns what is wrong if the program had to be compiled over the whole kit, or None."""
+    return "scripts/build reached makes it anew" if whole_kit_note(name).exists() else None
+
+
 def lacks_help(command):
     """Whoever asks for help gets a usage line and up to fourteen more on standard output."""
     status, output, said = programs.ran([TOP / command, "--help"])
@@ -105,6 +112,8 @@ def main(asked):
     tally = Tally()
     for word, document, *expected in ANSWERS:
         tally.tell(f"./try {word} < {document}", reason(word, document, *expected))
+    for name in PROGRAMS:
+        tally.tell(f"{LIST.relative_to(TOP)} has all that {name} reaches", is_stale(name))
     for command in COMMANDS:
         tally.tell(f"./{command} --help", lacks_help(command))
     for tool in sorted(it for it in (TOP / "scripts").iterdir() if it.is_file()):
