@@ -4,5 +4,6 @@ pub mod TopLemmas
 pub mod ReadLemmas
 pub mod AnswerLemmas
 pub mod LiveLemmas
+pub mod AloneLemmas
 pub mod TracedLemmas
 pub mod BytesLemmas

@@ -1,9 +1,11 @@
--- A live run over a shared desk: what it starts from, and what it comes to.
+-- A live run: what it starts from, and what it comes to, over a shared desk or, without sessions, over a desk alone.
 use Rattle.std.specs.Prelude.{◌≡◌, ℕ, true, List, [], length, is_some}
 use Rattle.std.specs.List.{AllZip}
-use Rattle.cm_desk.specs.Desk.{History}
+use Rattle.cm_document.specs.declared.description.Description.{Description}
+use Rattle.cm_desk.specs.Desk.{History, IsRight, now_of}
 use Rattle.cm_model.specs.Sessions.{calls_of, entries_by, loop_calls, Follows}
 use Rattle.cm_model.specs.State.{State, boot}
+use Rattle.cm_model.specs.declared.blanks.Blanks.{Blanks}
 use Rattle.cm_model.specs.declared.entry.Entry.{Entry}
 use Rattle.console_session.specs.Sessions.{SessionState}
 use Rattle.rt_flight.specs.Flights.{FlightFacts, IsAloft, IsComputed}
@@ -14,6 +16,13 @@ use Rattle.turn_lock.specs.declared.kept.Kept.{Ghosts}
 use Rattle.turn_lock.specs.declared.lock.TurnLock.{TurnLock}
 use Rattle.turn_lock.specs.declared.pass.TurnPass.{TurnPass}
 use Rattle.desk_turns.specs.Jobs.{AreAtFirst}
+
+-- The loop alone made all cycles of a description and closed, over the desk that was booted without sessions.
+pub record HasLoopedAlone (description : Description) (blanks : Blanks) (h : History) : Type 0 where
+  pub opening : h.opening ≡ boot description blanks 0
+  pub right : IsRight h
+  pub looped : calls_of (entries_by 0 h.made) ≡ loop_calls description.cycles
+  pub closed : (now_of h).closed ≡ true
 
 -- A flight was computed: of each state of which it was, it is the computed one.
 pub record WasComputed (old new : FlightFacts) : Type 0 where

@@ -8,6 +8,7 @@ pub use status::Status;
 pub use top::{run, run_alone};
 
 mod accepted;
+mod alone;
 mod answer;
 mod check;
 mod document;

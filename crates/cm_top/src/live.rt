@@ -14,6 +14,7 @@ ghost use Rattle.cm_top.specs.Live.{CanStart, HasRun, WasComputed};
 ghost use Rattle.cm_top.specs.Status.{RanDocument};
 
 use crate::accepted::write_out;
+use crate::alone::made_alone;
 use crate::status::Status;
 use cm_desk::{Book, Desk};
 use cm_document::{Checked, Document, Script};
@@ -67,7 +68,7 @@ where
 }
 
 /// The desk of a live run over a checked description and a script, once the loop and all sessions have come to their
-/// ends.
+/// ends. They share it, unless one worker computes and there is no session.
 fn made<R, P, G, C>(
     rt: &R,
     alloc: Global,
@@ -89,6 +90,9 @@ where
 {
     let cycles = checked.description().cycles;
     let texts = script.sessions.as_slice();
+    if texts.is_empty() && workers <= 1 {
+        return made_alone(alloc, checked, stock, pace, gate);
+    }
     let sessions = waiting(alloc, texts)?;
     let desk = Desk::boot(alloc, checked, stock, texts.len() as u32)?;
     let (shared, looping, passes) = SharedDesk::share(alloc, desk)?;

@@ -1,9 +1,9 @@
--- What a desk's console tells.
-use Rattle.std.specs.Prelude.{ℕ, Bool, Option, Some, None}
+-- What a desk's consoles tell.
+use Rattle.std.specs.Prelude.{ℕ, ◌-◌, Bool, Option, Some, None}
 use Rattle.cm_model.specs.Sessions.{entries_by}
 use Rattle.cm_model.specs.State.{State}
 use Rattle.cm_desk.specs.Desk.{History, begun_of, now_of}
-use Rattle.cm_model.specs.Ports.{Console}
+use Rattle.cm_model.specs.Ports.{Console, LoopConsole}
 
 -- A desk's console tells the whole history of the desk; the entries that it made are those of its number.
 abbrev pub desk_console : ℕ → History → ℕ → Console
@@ -33,4 +33,14 @@ ground_of lent who h = record {
   opening = h.opening;
   begun = begun_of h;
   aloft = (now_of h).aloft;
+}
+
+-- The loop's console over a desk tells of the history of that desk; its entries are those of the loop's number.
+abbrev pub loop_console : History → LoopConsole
+loop_console h = record {
+  who = h.opening.sessions;
+  made = entries_by h.opening.sessions h.made;
+  left = h.opening.description.cycles - (now_of h).ended;
+  out = (now_of h).aloft;
+  closed = (now_of h).closed;
 }

@@ -53,7 +53,28 @@ where
     live_by(rt, alloc, sessions, looping, cycles, pace, gate, &compute)
 }
 
-/// The same, where a flight is computed as the caller says.
+/// A live run without sessions: the loop alone makes so many cycles and then closes, and no thread is made. If a begin
+/// is refused memory the loop closes at once.
+#[tactic(auto, using(crate::proofs::LoopLemmas::may_loop))]
+pub fn live_alone<L: LoopPort, C: Pace, G: Gate>(
+    looping: &mut L,
+    cycles: u64,
+    pace: &mut C,
+    gate: &G,
+) -> Result<(), Memory>
+    requires { IsAtFirst cycles (L.tells looping.old) }
+    ensures { MatchResult result
+        (λ _. HasLooped L.LoopPort cycles looping.old looping.new)
+        (λ _. HasStopped L.LoopPort cycles looping.old looping.new) }
+{
+    let compute = |console: &mut L, flight: &mut L::Flight|
+        requires { L.is_out console.old flight.old × L.may_be_computed flight.old }
+        ensures { HasComputed L.LoopPort console.old console.new flight.new }
+    { console.compute(flight) };
+    run_loop(looping, cycles, pace, gate, &compute)
+}
+
+/// The same as `live`, where a flight is computed as the caller says.
 #[tactic(auto, using(crate::proofs::LoopLemmas::not_begun, crate::proofs::LoopLemmas::looped_all))]
 pub fn live_by<R, P, L, C, G, F>(
     rt: &R,

@@ -16,12 +16,17 @@ impl Pace for NoPace {
     fn pause(&mut self, _cycle: u64) {}
 }
 
-/// The pace that lets other threads run between two cycles, and waits for none of them.
+/// A yield comes once in so many cycles, because it takes as long as an empty cycle does.
+const CYCLES_PER_YIELD: u64 = 32;
+
+/// The pace that lets other threads run once in so many cycles (`CYCLES_PER_YIELD`), and waits for none of them.
 #[derive(Clone, Copy, Debug)]
 pub struct YieldPace;
 
 impl Pace for YieldPace {
-    fn pause(&mut self, _cycle: u64) {
-        thread::yield_now();
+    fn pause(&mut self, cycle: u64) {
+        if cycle % CYCLES_PER_YIELD == 0 {
+            thread::yield_now();
+        }
     }
 }

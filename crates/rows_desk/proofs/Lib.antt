@@ -1,5 +1,4 @@
 mod TableLemmas
-mod LoopLemmas
 mod Crossing
 mod LoopPassLemmas
 mod SessionLemmas

@@ -6,12 +6,13 @@ ghost use Rattle.cm_desk.specs.Calls.Answers.{MayCall};
 ghost use Rattle.cm_model.specs.Controllers.{IsBlank};
 
 use crate::lines::{CANNOT, push_history, push_last};
-use crate::looping::{DeskLoop, across, make_cycle};
+use crate::looping::{across, can_begin, can_close, make_cycle};
 use cm_desk::Desk;
 use cm_document::{Call, Checked};
 use cm_model::LoopPort;
 use cm_stock::Stock;
 use ctl_trait::Controller;
+use desk_turns::DeskLoop;
 use pages_calls::calls::call_of;
 use pages_calls::described::checked_description;
 use pages_calls::replies::push_reply;
@@ -105,28 +106,28 @@ fn make<C: Controller>(
     match call {
         "cycle" => cycle(looping, told),
         "close" => close(looping, told),
-        "history" => push_history(alloc, told, looping.history()),
+        "history" => push_history(alloc, told, looping.desk().history()),
         _ => ask(alloc, looping, call, told),
     }
 }
 
 /// A cycle, of which the reply of its end is told.
 fn cycle<C: Controller>(looping: &mut DeskLoop<C>, told: &mut String) -> Result<(), Fail> {
-    if !looping.can_begin() {
+    if !can_begin(looping) {
         told.push_str(CANNOT)?;
         return Ok(());
     }
     make_cycle(looping)?;
-    push_last(told, true, looping.history())
+    push_last(told, true, looping.desk().history())
 }
 
 fn close<C: Controller>(looping: &mut DeskLoop<C>, told: &mut String) -> Result<(), Fail> {
-    if !looping.can_close() {
+    if !can_close(looping) {
         told.push_str(CANNOT)?;
         return Ok(());
     }
     looping.close();
-    push_last(told, true, looping.history())
+    push_last(told, true, looping.desk().history())
 }
 
 /// `WHO CALL`.
@@ -138,7 +139,7 @@ fn ask<C: Controller>(
 ) -> Result<(), Fail> {
     let (who, call) = halves(line, " ")?;
     let who = who.parse()?;
-    if who >= looping.sessions() {
+    if who >= looping.desk().sessions() {
         return Err(Fail::new("no such session"));
     }
     let (verb, rest) = halves(call, " ")?;

@@ -40,6 +40,17 @@ fn the_pace_is_called_behind_each_cycle(rt: HostRuntime) -> Result<(), Fail> {
     Ok(())
 }
 
+#[test]
+fn the_loop_makes_its_cycles_alone(rt: HostRuntime) -> Result<(), Fail> {
+    let alloc = rt.alloc();
+    let ran = run_held(&rt, alloc, ARM, TWO_CYCLES_ALONE, OF_THE_LOOP_ALONE)?;
+    hold_told(alloc, TWO_CYCLES_ALONE, ran.told.as_str(), TOLD_ALONE)?;
+    match ran.pauses {
+        2 => Ok(()),
+        _ => Err(Fail::new("another number of pauses than of cycles")),
+    }
+}
+
 /// What stands before a script of sessions that ask for nothing.
 const ONE_CYCLE: &str = "version = 1
 update_rate = 100
@@ -104,6 +115,21 @@ const OF_THE_LOOP: &str = "\
 computed 0, landed 0, paused 0, begun 1, computed 1, landed 1, paused 1, begun 2, computed 2, landed 2, paused 2";
 
 const MADE_OF_THREE: &str = "a load fwd, configure fwd, switch strict +fwd, send fwd 0.500000";
+
+/// The end of a document of the arm, without a session.
+const TWO_CYCLES_ALONE: &str = "cycles = 2
+--- script ---
+";
+
+const OF_THE_LOOP_ALONE: &str = "\
+begun 0, computing 0, computed 0, landed 0, paused 0, begun 1, computing 1, computed 1, landed 1, paused 1";
+
+const TOLD_ALONE: &str = "ok
+loop begin 0: none
+loop end 0: joint j1 0.000000 0.000000 0.000000
+loop begin 1: none
+loop end 1: joint j1 0.000000 0.000000 0.000000
+loop close: none";
 
 /// A run whose threads come by these marks in order, and which goes well.
 fn run_held<R: Threads + Wait + Sync>(

@@ -1,4 +1,5 @@
 use Rattle.std.proofs.Common.{◌≡◌, ◌<◌, ◌^◌, ℕ, List, [], length, map, All, rules, ap, subst, sym, ◌∙◌}
+use Rattle.std.specs.Prelude.{◌==◌}
 use Rattle.cm_desk.specs.Desk.{History}
 use Rattle.cm_document.specs.declared.document.Document.{Document}
 use Rattle.cm_document.specs.declared.script.SessionText.{SessionText}
@@ -6,6 +7,7 @@ use Rattle.cm_document.specs.declared.description.Description.{Description}
 use Rattle.cm_model.specs.State.{boot}
 use Rattle.console_session.specs.Sessions.{AreLines}
 use Rattle.cm_top.specs.Live.{CanStart, HasRun}
+use Rattle.cm_top.proofs.AloneLemmas.{alone_if_none}
 use Rattle.cm_top.proofs.LiveLemmas.{can_start, live_done}
 use Rattle.desk_turns.proofs.NumberLemmas.{as_many}
 use Rattle.desk_turns.proofs.RulesLemmas.{rules_few, rules_lines}
@@ -35,6 +37,13 @@ run_over-requires-after_bounds g c =
     (ap (λ (x : Description). x.cycles) (sym c.description.ensures.same))
     (can_start d c.args.stock c.in_ok-desk.desk _ _ _ _ _ booted c.in_ok-shared.ensures.shared
     c.in_ok-sessions.ensures.first many)
+
+-- without sessions the loop alone makes a whole history
+pub returns-then-workers-le1 : goal.returns-then-workers-le1
+returns-then-workers-le1 g c =
+    alone_if_none (record { description = c.args.checked; script = c.args.script.now }) c.args.stock c.made_alone.result
+    (ap (λ (texts : List SessionText). length texts == 0) (sym c.as_slice-texts.ensures) ∙ sym c.is_empty.ensures
+    ∙ c.if-is_empty.true) c.made_alone.ensures
 
 -- what came home is the desk of a live run that is done
 pub returns : goal.returns

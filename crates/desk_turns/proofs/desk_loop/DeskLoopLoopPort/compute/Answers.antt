@@ -1,4 +1,4 @@
-use Rattle.rows_desk.proofs.looping.DeskLoopLoopPort.compute.Goals as goal
+use Rattle.desk_turns.proofs.desk_loop.DeskLoopLoopPort.compute.Goals as goal
 
 -- a flight at hand that is not computed was not started
 pub compute-requires : goal.compute-requires

@@ -1,6 +1,6 @@
-use Rattle.rows_desk.proofs.LoopLemmas.{can_begin_there, begins_there}
+use Rattle.desk_turns.proofs.LoopConsoleLemmas.{can_begin_there, begins_there}
 use Rattle.cm_desk.proofs.BegunLemmas.{out_at_hand}
-use Rattle.rows_desk.proofs.looping.DeskLoopLoopPort.begin.Goals as goal
+use Rattle.desk_turns.proofs.desk_loop.DeskLoopLoopPort.begin.Goals as goal
 
 pub begin-requires : goal.begin-requires
 begin-requires g c = record { can = can_begin_there c.args.self.now.desk c.requires }

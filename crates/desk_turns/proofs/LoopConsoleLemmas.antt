@@ -19,7 +19,7 @@ use Rattle.cm_model.proofs.StayLemmas.{boundary-SameLoop, step-IsStep}
 use Rattle.cm_model.proofs.FollowedLemmas.{own_entry}
 use Rattle.cm_desk.specs.Desk.{History, now_of, Grows, IsRight}
 use Rattle.cm_desk.proofs.LoopLemmas.{begins_where, closes_where}
-use Rattle.rows_desk.specs.Loops.{loop_console}
+use Rattle.desk_turns.specs.Ports.{loop_console}
 
 -- ---- When
 
