@@ -1,6 +1,6 @@
 //! The words that the program was started with, and what they ask for.
 
-ghost use Rattle.cm_top.specs.Book.{RunsAlone};
+ghost use Rattle.desk_jobs.specs.Book.{RunsAlone};
 
 use cm_program::given_words;
 use cm_top::Status;

@@ -2,7 +2,7 @@
 use Rattle.std.proofs.Common.{◌≡◌, ℕ, List, Option, subst}
 use Rattle.std.specs.Prelude.{Result, Ok, Err, IfOk}
 use Rattle.cm_model.specs.declared.blanks.Blanks.{Blanks}
-use Rattle.cm_top.specs.Book.{BookFacts}
+use Rattle.desk_jobs.specs.Book.{BookFacts}
 use Rattle.cm_top.specs.Calls.Run.{SourceFacts, SinkFacts, MindsFaults, RefusesWords, RunsJob}
 use Rattle.cm_top.specs.Status.{ComesBeforeWriting}
 use Rattle.cm_top.specs.declared.status.Status.{Status}

@@ -1,7 +1,7 @@
 -- What a run of the program promises.
 use Rattle.std.specs.Prelude.{◌≡◌, ◌⊎◌, ℕ, List, Option, Err, IfOk}
 use Rattle.cm_model.specs.declared.blanks.Blanks.{Blanks}
-use Rattle.cm_top.specs.Book.{BookFacts}
+use Rattle.desk_jobs.specs.Book.{BookFacts}
 use Rattle.cm_top.specs.Calls.Run.{SourceFacts, SinkFacts, MindsFaults, RunsJob}
 use Rattle.cm_top.specs.Status.{ComesBeforeWriting}
 use Rattle.cm_top.specs.declared.status.Status.{Status}

@@ -19,12 +19,14 @@ use Rattle.cm_words.specs.declared.job.TheConstants.{MOST_ROUNDS}
 use Rattle.cm_words.specs.Words.{asked}
 use Rattle.cm_top.specs.Answering.{Answering, upgrading, checking, planning, accepted_by, IsAnswer, AnsweredWith}
 use Rattle.cm_top.specs.Answering.{Answers, WroteAnswer, DidJob, answering_of, status_for, status_of_accepted, untraced}
-use Rattle.cm_top.specs.Book.{BookFacts, IsShort, Task, task_of}
+use Rattle.desk_jobs.specs.Book.{BookFacts}
+use Rattle.cm_top.specs.Status.{IsShort}
+use Rattle.cm_top.specs.Tasks.{Task, task_of}
 use Rattle.cm_top.specs.Calls.Read.{ReadAs, EndsUnread, Reads, ReadsFrom, MindsSource}
 use Rattle.cm_top.specs.Calls.Run.{SourceFacts, SinkFacts, MindsSink, MindsFaults, RefusesWords}
 use Rattle.cm_top.specs.Calls.Run.{RunsFrom, AnswersFrom, DoesJob, SparesAlone, written}
 use Rattle.cm_top.specs.Status.{Written, Wrote, ComesOfBytes, ComesBeforeWriting, IsPlain}
-use Rattle.cm_top.specs.Traced.{Given}
+use Rattle.document_text.specs.Traced.{Given}
 use Rattle.cm_top.specs.declared.status.Status.{Status}
 use Rattle.cm_top.specs.declared.status.Status.TheVariants as status
 use Rattle.cm_top.proofs.ReadLemmas.{told-Rose, some_known, read-Rose, ran-RunsFrom}

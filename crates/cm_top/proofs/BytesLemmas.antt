@@ -15,11 +15,12 @@ use Rattle.cm_document.specs.declared.limits.TheConstants.{LONGEST_DOCUMENT}
 use Rattle.cm_model.specs.declared.blanks.Blanks.{Blanks}
 use Rattle.cm_top.specs.Answering.{Answering, upgrading, checking, planning, accepted_by, AnsweredWith}
 use Rattle.cm_top.specs.Answering.{IsAnswer, Refuses, status_for, status_of_accepted, status_of_given}
-use Rattle.cm_top.specs.Book.{IsShort}
+use Rattle.cm_top.specs.Status.{IsShort}
 use Rattle.cm_top.specs.Calls.Answer.{AnswersGiven, AnswersBytes}
 use Rattle.cm_top.specs.Calls.Run.{SourceFacts, SinkFacts, MindsSink, AnswersFrom, written}
-use Rattle.cm_top.specs.Status.{Written, Wrote, ComesOfBytes, IsPlain, IsPlainFault, status_of_fault}
-use Rattle.cm_top.specs.Traced.{Given}
+use Rattle.cm_top.specs.Status.{Written, Wrote, ComesOfBytes, IsPlain, status_of_fault}
+use Rattle.document_text.specs.Plain.{IsPlainFault}
+use Rattle.document_text.specs.Traced.{Given}
 use Rattle.cm_top.specs.declared.status.Status.{Status}
 use Rattle.cm_top.specs.declared.status.Status.TheVariants as status
 use Rattle.cm_top.proofs.AnswerLemmas.{answer-AnsweredWith, answer-OfBytes, answered-Answers, short_for}

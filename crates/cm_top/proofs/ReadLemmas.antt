@@ -19,14 +19,18 @@ use Rattle.make_document.specs.Made.{made}
 use Rattle.make_document.specs.Meant.{made_document}
 use Rattle.make_document.proofs.AcceptedLemmas.{made_is_accepted}
 use Rattle.cm_words.specs.declared.job.TheConstants.{MOST_ROUNDS}
-use Rattle.cm_top.specs.Book.{BookFacts, IsShort, Task}
+use Rattle.desk_jobs.specs.Book.{BookFacts}
+use Rattle.cm_top.specs.Status.{IsShort}
+use Rattle.cm_top.specs.Tasks.{Task}
 use Rattle.cm_top.specs.Calls.Read.{ReadAs, EndsUnread, Reads, ReadsBytes, ReadsFrom, MindsSource}
 use Rattle.cm_top.specs.Calls.Run.{SourceFacts, SinkFacts, MindsSink, MindsFaults, Runs, RunsMade, RunsFrom, written}
 use Rattle.cm_top.specs.Status.{Written, EndedWith, HandsOut, Wrote, RanDocument, ComesOfBytes}
-use Rattle.cm_top.specs.Status.{ComesBeforeWriting, IsPlainFault, status_of, status_of_document, status_of_fault}
+use Rattle.cm_top.specs.Status.{ComesBeforeWriting, status_of, status_of_document, status_of_fault}
+use Rattle.document_text.specs.Plain.{IsPlainFault}
 use Rattle.cm_top.specs.declared.status.Status.{Status}
 use Rattle.cm_top.specs.declared.status.Status.TheVariants as status
-use Rattle.cm_top.proofs.TopLemmas.{document-Rules, RanDocument-EndedWith, RanDocument-HandsOut}
+use Rattle.document_text.proofs.RulesLemmas.{document-Rules}
+use Rattle.cm_top.proofs.TopLemmas.{RanDocument-EndedWith, RanDocument-HandsOut}
 use Rattle.cm_top.proofs.TopLemmas.{RanDocument-OfBytes, RanDocument-RunsBytes}
 
 -- a fault that is told was counted

@@ -3,6 +3,7 @@ use Rattle.std.specs.Prelude.{◌≡◌, ◌⊎◌, ℕ, ◌<◌, nat_lt, if◌t
 use Rattle.std.specs.Prelude.{Result, Ok, Err}
 use Rattle.std.specs.Io.KnownBytes.{Keeps, Appends}
 use Rattle.outside_io.specs.Bytes.{AllFlushed, AppendsPrefix}
+use Rattle.cm_document.specs.CallText.{script_text}
 use Rattle.cm_document.specs.Described.{tree_of, description_in}
 use Rattle.cm_document.specs.Document.{document}
 use Rattle.cm_document.specs.Grammars.{whole_grammar}
@@ -14,13 +15,16 @@ use Rattle.cm_document.specs.declared.limits.TheConstants.{LONGEST_DOCUMENT, SEC
 use Rattle.cm_words.specs.declared.job.JobKind.{JobKind}
 use Rattle.cm_words.specs.declared.job.JobKind.TheVariants as kind
 use Rattle.cm_model.specs.declared.blanks.Blanks.{Blanks}
+use Rattle.spawn_plan.specs.Plan.{spawned}
 use Rattle.spawn_plan.specs.declared.fault.SpawnFault.{SpawnFault}
 use Rattle.trace_laws.specs.Judged.{judged}
 use Rattle.trace_laws.specs.Told.{IsTold, IsWrong, WrongLine}
-use Rattle.cm_top.specs.Book.{BookFacts, Task, IsShort}
+use Rattle.desk_jobs.specs.Book.{BookFacts}
+use Rattle.cm_top.specs.Tasks.{Task}
+use Rattle.cm_top.specs.Status.{IsShort}
 use Rattle.cm_top.specs.Status.{Written, Wrote, RanDocument, status_of_document}
-use Rattle.cm_top.specs.Traced.{Given, traced}
-use Rattle.cm_top.specs.Wished.{wished, planned_text}
+use Rattle.document_text.specs.Traced.{Given, traced}
+use Rattle.document_text.specs.Wished.{wanted_in, wished}
 use Rattle.cm_top.specs.declared.answer.Question.{Question}
 use Rattle.cm_top.specs.declared.answer.Question.TheVariants as question
 use Rattle.cm_top.specs.declared.status.Status.{Status}
@@ -56,6 +60,10 @@ abbrev pub accepted_by : Answering → List ℕ → Result Given DocumentFault
 accepted_by upgrading bytes = document whole_grammar bytes >>= λ d. Ok (untraced d)
 accepted_by checking bytes = traced bytes
 accepted_by planning bytes = wished bytes >>= λ d. Ok (untraced d)
+
+-- the text of the script that starts the controllers which a plan's document wants, or why there is none
+unfoldable pub planned_text : Document → Blanks → Result (List ℕ) SpawnFault
+planned_text d blanks = spawned d.description blanks (wanted_in d.script) >>= λ script. Ok (script_text script)
 
 -- Which texts answer what was given, over these blanks. To an upgrade those that are read as its description, with the
 -- second version. To a check `legal`, if the trace is that of a legal, whole history of the document. To a plan the

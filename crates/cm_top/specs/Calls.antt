@@ -1,4 +1,3 @@
 pub mod Run
 pub mod Read
 pub mod Answer
-pub mod Parts

@@ -1,7 +1,4 @@
-pub mod Book
+pub mod Tasks
 pub mod Status
-pub mod Traced
-pub mod Wished
 pub mod Answering
-pub mod Live
 pub mod Calls

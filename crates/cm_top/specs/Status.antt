@@ -1,20 +1,18 @@
 -- The numbers of the statuses, and what each says of the run that ended so.
-use Rattle.std.specs.Prelude.{◌≡◌, ℕ, ◌<◌, List, Option, Some, None, Result, Ok, Err, length, nat_lt, if◌then◌else◌}
-use Rattle.std.specs.Prelude.{IsSomeAnd}
+use Rattle.std.specs.Prelude.{◌≡◌, ℕ, ◌<◌, ◌≤◌, List, Option, Some, None, Result, Ok, Err, length, nat_lt}
+use Rattle.std.specs.Prelude.{if◌then◌else◌, IsSomeAnd}
 use Rattle.std.specs.Io.KnownBytes.{Keeps, Appends}
 use Rattle.outside_io.specs.Bytes.{AllFlushed, AppendsPrefix}
 use Rattle.cm_document.specs.declared.limits.TheConstants.{LONGEST_DOCUMENT}
 use Rattle.cm_document.specs.Document.{document}
 use Rattle.cm_document.specs.Grammars.{whole_grammar}
 use Rattle.cm_document.specs.declared.document.Document.{Document}
-use Rattle.cm_document.specs.declared.faults.DescProblem.TheVariants as problem
-use Rattle.cm_document.specs.declared.faults.DescFault.TheVariants as desc_fault
-use Rattle.cm_document.specs.declared.faults.CheckFault.TheVariants as check_fault
-use Rattle.cm_document.specs.declared.faults.ScriptFault.TheVariants as script_fault
 use Rattle.cm_document.specs.declared.faults.DocumentFault.{DocumentFault}
 use Rattle.cm_document.specs.declared.faults.DocumentFault.TheVariants as fault
 use Rattle.cm_model.specs.declared.blanks.Blanks.{Blanks}
-use Rattle.cm_top.specs.Book.{BookFacts, Task, IsShort, IsBookOf}
+use Rattle.desk_jobs.specs.Book.{BookFacts, IsBookOf}
+use Rattle.cm_top.specs.Tasks.{Task}
+use Rattle.document_text.specs.Plain.{IsPlainFault}
 use Rattle.spawn_plan.specs.declared.fault.SpawnFault.TheVariants as spawn_fault
 use Rattle.cm_top.specs.declared.status.Status.{Status}
 use Rattle.cm_top.specs.declared.status.Status.TheVariants as status
@@ -31,6 +29,10 @@ code_of status.Memory = 7
 code_of status.WriteFault = 8
 code_of (status.NotLegal _ _) = 9
 code_of (status.CannotSpawn _) = 10
+
+-- no longer than a document may be
+abbrev pub IsShort : List ℕ → Type 0
+IsShort bytes = length bytes ≤ LONGEST_DOCUMENT
 
 -- What a run has before it and after it: what the sink had taken and has taken, and how much of that is flushed.
 pub record Written : Type 0 where
@@ -111,14 +113,7 @@ ComesBeforeWriting status.Memory = ⊥
 ComesBeforeWriting status.WriteFault = ⊥
 ComesBeforeWriting _ = Unit {0}
 
--- Want of memory is a fault of its own: no other fault carries it.
-abbrev pub IsPlainFault : DocumentFault → Type 0
-IsPlainFault (fault.Description (problem.Text desc_fault.Memory)) = ⊥
-IsPlainFault (fault.Description (problem.Check check_fault.Memory)) = ⊥
-IsPlainFault (fault.Script script_fault.Memory) = ⊥
-IsPlainFault _ = Unit {0}
-
--- It is a status of its own too: no refusal carries it.
+-- Want of memory is a status of its own: no refusal carries it.
 abbrev pub IsPlain : Status → Type 0
 IsPlain (status.BadDescription p) = IsPlainFault (fault.Description p)
 IsPlain (status.BadScript f) = IsPlainFault (fault.Script f)

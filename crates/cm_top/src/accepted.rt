@@ -1,27 +1,30 @@
-//! The run of an accepted document on one thread or by several workers: its job is made, its trace or summary written,
-//! and its book handed out.
+//! The run of an accepted document, by one thread, by several workers or live: its job is made, its trace or summary
+//! written, and its book handed out.
 
-ghost use Rattle.std.specs.Prelude.{◌≡◌, ◌≢◌, ◌⊎◌, option_map, true, Err, IfOk, None, OnErr, OnOk, Some};
+ghost use Rattle.std.specs.Prelude.{◌≡◌, ◌≢◌, ◌⊎◌, option_map, true, Err, None, OnErr, OnOk, Some};
 ghost use Rattle.std.specs.Io.KnownBytes.{Appends, Keeps};
 ghost use Rattle.outside_io.specs.Bytes.{AllFlushed, AppendsPrefix};
 ghost use Rattle.outside_io.specs.Faults.{IsToldAs};
 ghost use Rattle.cm_desk.specs.Desk.{now_of};
 ghost use Rattle.cm_document.specs.ScriptLaws.{MeetsRules};
 ghost use Rattle.cm_document.specs.declared.document.Document.{Document};
-ghost use Rattle.cm_top.specs.Book.{RunsAlone, IsDone, book_facts, book_of, made_by, task_of, text_by};
+ghost use Rattle.cm_words.specs.declared.job.Job.{Job};
+ghost use Rattle.cm_words.specs.declared.job.JobKind.TheVariants as kind;
+ghost use Rattle.desk_jobs.specs.Book.{RunsAlone, book_facts, book_of};
+ghost use Rattle.cm_top.specs.Tasks.{task_of, text_by};
 ghost use Rattle.cm_top.specs.Calls.Run.{sink_facts, MindsSink};
 ghost use Rattle.cm_top.specs.Status.{RanDocument, Wrote};
 
 use crate::status::Status;
 use cm_desk::{Book, Desk};
-use cm_document::{Checked, Document, Script};
+use cm_document::{Document, Script};
 use cm_stock::Stock;
-use cm_words::JobKind;
 use ctl_trait::Controller;
-use desk_turns::{run_in_steps, run_in_steps_by, run_job, run_job_by};
+use desk_jobs::{desk_of_job, desk_of_job_by, desk_of_live_run};
 use fixed_num::Memory;
-use outside_io::Sink;
+use outside_io::{Gate, Pace, Sink};
 use std::alloc::Global;
+use std::sync::Wait;
 use std::thread::Threads;
 use summary_text::write_summary;
 use trace_text::{OutFault, write_trace};
@@ -47,7 +50,7 @@ pub fn run_document<K: Sink, C: Controller>(
         description,
         script,
     } = document;
-    match made(alloc, asked.kind, description, &script, stock) {
+    match desk_of_job(alloc, asked.kind, description, &script, stock) {
         Ok(desk) => write_out(alloc, sink, asked.make, desk, &script),
         Err(Memory) => (Status::Memory, None),
     }
@@ -78,53 +81,44 @@ where
         description,
         script,
     } = document;
-    match made_among(rt, alloc, asked, description, &script, stock) {
+    match desk_of_job_by(rt, alloc, asked, description, &script, stock) {
         Ok(desk) => write_out(alloc, sink, asked.make, desk, &script),
         Err(Memory) => (Status::Memory, None),
     }
 }
 
-/// The desk of a job that is not live, made to its end over a checked description and a script.
-fn made<C: Controller>(
-    alloc: Global,
-    kind: JobKind,
-    checked: Checked,
-    script: &Script,
-    stock: Stock<C>,
-) -> Result<Desk<C>, Memory>
-    requires runs { RunsAlone kind }
-    requires rules { MeetsRules script.now }
-    ensures { IfOk result
-        (IsDone (made_by kind stock) stock (record { description = checked; script = script.now })) }
-{
-    match kind {
-        JobKind::Run => Ok(run_job(alloc, checked, script, stock)?.into_desk()),
-        JobKind::Steps => Ok(run_in_steps(alloc, checked, script, stock)?.into_desk()),
-        JobKind::Live | JobKind::Upgrade | JobKind::Check | JobKind::Plan => unreachable!(),
-    }
-}
-
-/// The same, where as many workers as the job has share each cycle.
-fn made_among<R: Threads + Sync, C: Controller + Send>(
+/// Runs an accepted document live, writes its trace, or of a made document the summary, and hands out its book.
+pub(crate) fn run_document_live<R, K, P, G, C>(
     rt: &R,
     alloc: Global,
-    asked: cm_words::Job,
-    checked: Checked,
-    script: &Script,
+    make: Option<u32>,
+    workers: u32,
+    document: Document,
+    sink: &mut K,
     stock: Stock<C>,
-) -> Result<Desk<C>, Memory>
-    requires runs { RunsAlone asked.kind }
-    requires rules { MeetsRules script.now }
-    ensures { IfOk result
-        (IsDone (made_by asked.kind stock) stock (record { description = checked; script = script.now })) }
+    pace: &mut P,
+    gate: &G,
+) -> (Status, Option<Book<C>>)
+where
+    R: Threads + Wait + Sync,
+    K: Sink,
+    P: Pace + Send,
+    G: Gate,
+    C: Controller + Send,
+    requires rules { MeetsRules document.script }
+    ensures ran { RanDocument (task_of (record { kind = kind.Live; make = make; workers = workers }) stock) document
+        stock (record { old = K.taken sink.old; new = K.taken sink.new; flushed = K.flushed sink.new })
+        result.0 (option_map (book_facts C.meaning) result.1) }
+    ensures outside { MindsSink (sink_facts K.taken K.flushed K.faults sink.old)
+        (sink_facts K.taken K.flushed K.faults sink.new) result.0 }
 {
-    let workers = asked.workers;
-    match asked.kind {
-        JobKind::Run => Ok(run_job_by(rt, alloc, workers, checked, script, stock)?.into_desk()),
-        JobKind::Steps => {
-            Ok(run_in_steps_by(rt, alloc, workers, checked, script, stock)?.into_desk())
-        }
-        JobKind::Live | JobKind::Upgrade | JobKind::Check | JobKind::Plan => unreachable!(),
+    let Document {
+        description,
+        script,
+    } = document;
+    match desk_of_live_run(rt, alloc, workers, description, &script, stock, pace, gate) {
+        Ok(desk) => write_out(alloc, sink, make, desk, &script),
+        Err(Memory) => (Status::Memory, None),
     }
 }
 

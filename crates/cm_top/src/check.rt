@@ -9,10 +9,10 @@ ghost use Rattle.cm_top.specs.Calls.Answer.{AnswersBytes, AnswersGiven};
 ghost use Rattle.cm_top.specs.Calls.Run.{sink_facts, written, MindsSink};
 ghost use Rattle.cm_top.specs.Status.{ComesBeforeWriting};
 
-use crate::document::{Traced, read_traced};
 use crate::status::Status;
 use crate::upgrade::write;
 use cm_model::Blanks;
+use document_text::{Traced, read_traced};
 use outside_io::Sink;
 use std::alloc::Global;
 use trace_check::{TraceFault, check_trace};

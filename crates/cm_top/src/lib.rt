@@ -3,21 +3,15 @@
 #![tactic(auto)]
 
 pub use accepted::run_document;
-pub use document::{Traced, read_document, read_traced};
 pub use status::Status;
 pub use top::{run, run_alone};
 
 mod accepted;
-mod alone;
 mod answer;
 mod check;
-mod document;
 pub mod laws;
-mod live;
-mod parts;
 mod plan;
 mod reading;
 mod status;
 mod top;
 mod upgrade;
-mod wish;

@@ -6,13 +6,13 @@ ghost use Rattle.cm_top.specs.Answering.{planning, untraced};
 ghost use Rattle.cm_top.specs.Calls.Answer.{AnswersBytes, AnswersGiven};
 ghost use Rattle.cm_top.specs.Calls.Run.{sink_facts, written, MindsSink};
 ghost use Rattle.cm_top.specs.Status.{ComesBeforeWriting};
-ghost use Rattle.cm_top.specs.Wished.{planned_text};
+ghost use Rattle.cm_top.specs.Answering.{planned_text};
 
 use crate::status::Status;
 use crate::upgrade::write;
-use crate::wish::{read_wish, wanted_in};
 use cm_document::Document;
 use cm_model::Blanks;
+use document_text::{read_wish, wanted_in};
 use outside_io::Sink;
 use script_text::print_script;
 use spawn_plan::{SpawnFault, spawn};
@@ -56,7 +56,7 @@ fn plan_document<K: Sink>(
 }
 
 /// The text of the script that starts them, or why there is none.
-#[tactic(auto, unfolding(crate::specs::Wished::planned_text))]
+#[tactic(auto, unfolding(crate::specs::Answering::planned_text))]
 fn planned_text(alloc: Global, document: &Document, blanks: &Blanks) -> Result<Vec<u8>, SpawnFault>
     ensures { MatchResult result (λ text. planned_text document.now blanks.now ≡ Ok text.items)
         (λ fault. (fault ≡ SpawnFault.Memory) ⊎ (planned_text document.now blanks.now ≡ Err fault)) }

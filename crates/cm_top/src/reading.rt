@@ -7,9 +7,9 @@ ghost use Rattle.make_document.specs.Made.{made};
 ghost use Rattle.cm_top.specs.Calls.Read.{MindsSource, Reads, ReadsBytes, ReadsFrom};
 ghost use Rattle.cm_top.specs.Calls.Run.{source_facts};
 
-use crate::document::read_document;
 use crate::status::Status;
 use cm_document::{Document, LONGEST_DOCUMENT};
+use document_text::read_document;
 use fixed_num::Memory;
 use make_document::make_document;
 use outside_io::{ReadFault, Source, read_whole};

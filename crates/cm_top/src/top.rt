@@ -6,14 +6,14 @@ ghost use Rattle.cm_words.specs.declared.job.TheConstants.{MOST_ROUNDS};
 ghost use Rattle.cm_words.specs.Words.{asked, CanBeAsked};
 ghost use Rattle.cm_document.specs.ScriptLaws.{MeetsRules};
 ghost use Rattle.cm_top.specs.Answering.{DidJob, answering_of};
-ghost use Rattle.cm_top.specs.Book.{RunsAlone, book_facts, task_of};
+ghost use Rattle.desk_jobs.specs.Book.{RunsAlone, book_facts};
+ghost use Rattle.cm_top.specs.Tasks.{task_of};
 ghost use Rattle.cm_top.specs.Calls.Run.{source_facts, sink_facts, CanRunAlone, ReadsPlainly, RunsJob};
 ghost use Rattle.cm_top.specs.Calls.Run.{MindsFaults, MindsSink, RefusesWords, Spares, SparesAlone};
 ghost use Rattle.cm_top.specs.Status.{RanDocument};
 
-use crate::accepted::{run_document, run_document_by};
+use crate::accepted::{run_document, run_document_by, run_document_live};
 use crate::answer::{Question, answer_alone};
-use crate::live::run_document_live;
 use crate::reading::read_job;
 use crate::status::Status;
 use crate::upgrade::upgrade_document;

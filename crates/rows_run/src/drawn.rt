@@ -2,7 +2,7 @@
 
 use cm_document::{Document, LONGEST_DOCUMENT};
 use cm_model::Entry;
-use cm_top::read_document;
+use document_text::read_document;
 use draw_page::{page_of, whys_of};
 use pages_cases::pages::Teller;
 use pages_runs::books::history_of;

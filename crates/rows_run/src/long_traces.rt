@@ -6,7 +6,7 @@ ghost use Rattle.cm_document.specs.ScriptLaws.{MeetsRules};
 use crate::checks::told_wrong;
 use cm_document::{Document, LONGEST_DOCUMENT};
 use cm_model::Blanks;
-use cm_top::read_traced;
+use document_text::read_traced;
 use pages_cases::pages::{Teller, halves, hold, joined};
 use pages_runs::runs::{AMPLE, IN_STOCK};
 use std::alloc::Global;

@@ -3,7 +3,7 @@ use Rattle.std.specs.Prelude.{◌≡◌, ◌⊎◌, ℕ, List}
 use Rattle.cm_model.specs.declared.blanks.Blanks.{Blanks}
 use Rattle.cm_top.specs.Answering.{Answering, AnsweredWith, Refuses, WroteAnswer, status_for, status_of_given}
 use Rattle.cm_top.specs.Status.{ComesOfBytes, IsPlain, Written}
-use Rattle.cm_top.specs.Traced.{Given}
+use Rattle.document_text.specs.Traced.{Given}
 use Rattle.cm_top.specs.declared.status.Status.{Status}
 use Rattle.cm_top.specs.declared.status.Status.TheVariants as status
 

@@ -10,7 +10,7 @@ use Rattle.cm_document.specs.declared.document.Document.{Document}
 use Rattle.cm_document.specs.declared.faults.DocumentFault.TheVariants as fault
 use Rattle.cm_document.specs.declared.limits.TheConstants.{LONGEST_DOCUMENT}
 use Rattle.make_document.specs.Made.{made}
-use Rattle.cm_top.specs.Book.{IsShort}
+use Rattle.cm_top.specs.Status.{IsShort}
 use Rattle.cm_top.specs.Calls.Run.{SourceFacts}
 use Rattle.cm_top.specs.Status.{IsPlain, ComesOfBytes}
 use Rattle.cm_top.specs.declared.status.Status.{Status}

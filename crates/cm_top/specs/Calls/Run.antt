@@ -15,7 +15,8 @@ use Rattle.cm_words.specs.declared.job.WordsFault.TheVariants.{Usage}
 use Rattle.make_document.specs.Made.{made}
 use Rattle.cm_words.specs.declared.job.Job.{Job}
 use Rattle.cm_top.specs.Answering.{Answering, AnsweredWith, Answers, answering_of, status_for}
-use Rattle.cm_top.specs.Book.{BookFacts, Task, task_of}
+use Rattle.desk_jobs.specs.Book.{BookFacts}
+use Rattle.cm_top.specs.Tasks.{Task, task_of}
 use Rattle.cm_top.specs.Status.{Written, EndedWith, HandsOut, IsPlain, ComesOfBytes, ComesBeforeWriting, status_of}
 use Rattle.cm_top.specs.declared.status.Status.{Status}
 use Rattle.cm_top.specs.declared.status.Status.TheVariants as status

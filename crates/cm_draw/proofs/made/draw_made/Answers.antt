@@ -1,4 +1,4 @@
-use Rattle.cm_top.proofs.TopLemmas.{document-Rules}
+use Rattle.document_text.proofs.RulesLemmas.{document-Rules}
 use Rattle.cm_draw.proofs.made.draw_made.Goals as goal
 
 pub draw_document-requires : goal.draw_document-requires

@@ -1,4 +1,4 @@
-use Rattle.cm_top.specs.Book.{task_of}
+use Rattle.cm_top.specs.Tasks.{task_of}
 use Rattle.cm_top.proofs.TopLemmas.{done-RanDocument}
 use Rattle.cm_top.proofs.accepted.run_document.Goals as goal
 

@@ -1,4 +1,5 @@
-use Rattle.cm_top.proofs.TopLemmas.{made_by-IsWhole, document-Rules}
+use Rattle.desk_jobs.proofs.DoneLemmas.{made_by-IsWhole}
+use Rattle.document_text.proofs.RulesLemmas.{document-Rules}
 use Rattle.cm_top.proofs.laws.histories_of_accepted_documents_are_whole.Goals as goal
 
 pub returns : goal.returns

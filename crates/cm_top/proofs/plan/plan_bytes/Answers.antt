@@ -2,7 +2,7 @@ use Rattle.std.proofs.Common.{◌≡◌}
 use Rattle.std.proofs.KnownBytes.{Keeps-refl}
 use Rattle.cm_document.specs.declared.faults.DocumentFault.TheVariants as fault
 use Rattle.cm_top.specs.Answering.{planning}
-use Rattle.cm_top.specs.Wished.{wished}
+use Rattle.document_text.specs.Wished.{wished}
 use Rattle.cm_top.proofs.AnswerLemmas.{taken_untraced, refused_untraced}
 use Rattle.cm_top.proofs.BytesLemmas.{given_answered, fault_answered, fault_minds_sink, told_fault}
 use Rattle.cm_top.proofs.plan.plan_bytes.Goals as goal

@@ -4,7 +4,7 @@ use Rattle.cm_model.specs.declared.blanks.Blanks.{Blanks}
 use Rattle.cm_words.specs.declared.job.JobKind.{JobKind}
 use Rattle.cm_words.specs.declared.job.JobKind.TheVariants.{Upgrade}
 use Rattle.cm_top.specs.Answering.{DidJob, WroteAnswer, answering_of, untraced, upgrading}
-use Rattle.cm_top.specs.Book.{Task, task_of}
+use Rattle.cm_top.specs.Tasks.{Task, task_of}
 use Rattle.cm_top.specs.Status.{Written}
 use Rattle.cm_top.specs.declared.status.Status.{Status}
 use Rattle.cm_top.proofs.top.do_job.Goals as goal

@@ -3,7 +3,7 @@ use Rattle.cm_words.specs.declared.job.JobKind.TheVariants.{Run, Steps, Live, Up
 use Rattle.cm_words.specs.Words.{can_make}
 use Rattle.std.proofs.Common.{◌≡◌, ◌≢◌, ℕ, false, Option, None, refl, ap}
 use Rattle.cm_top.specs.Answering.{answering_of, checking, planning}
-use Rattle.cm_top.specs.Book.{task_of}
+use Rattle.cm_top.specs.Tasks.{task_of}
 use Rattle.cm_top.specs.Calls.Run.{ReadsPlainly}
 use Rattle.cm_top.proofs.AnswerLemmas.{ReadsItself, answers-DoesJob, answers-SparesAlone}
 use Rattle.cm_top.proofs.AnswerLemmas.{did-DoesJob, did-MindsFaults, did-late, unread-DoesJob}

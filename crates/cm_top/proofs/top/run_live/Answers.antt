@@ -1,5 +1,5 @@
 use Rattle.cm_words.specs.declared.job.JobKind.TheVariants.{Live}
-use Rattle.cm_top.specs.Book.{task_of}
+use Rattle.cm_top.specs.Tasks.{task_of}
 use Rattle.cm_top.proofs.ReadLemmas.{ran-MindsFaults, ran-RunsFrom, reads-Rules}
 use Rattle.cm_top.proofs.ReadLemmas.{unread-MindsFaults, unread-RunsFrom, RanDocument-late}
 use Rattle.cm_top.proofs.top.run_live.Goals as goal

@@ -3,7 +3,8 @@ use Rattle.cm_words.specs.declared.job.JobKind.TheVariants.{Run, Steps, Live, Up
 use Rattle.cm_words.specs.Words.{can_make}
 use Rattle.std.proofs.Common.{◌≡◌, ◌≢◌, true, false, None, refl, sym, ◌∙◌, true≢false}
 use Rattle.cm_top.specs.Answering.{answering_of}
-use Rattle.cm_top.specs.Book.{RunsAlone, task_of}
+use Rattle.desk_jobs.specs.Book.{RunsAlone}
+use Rattle.cm_top.specs.Tasks.{task_of}
 use Rattle.cm_top.proofs.ReadLemmas.{ran-MindsFaults, ran-RunsFrom, reads-Rules}
 use Rattle.cm_top.proofs.ReadLemmas.{unread-MindsFaults, unread-RunsFrom, RanDocument-late}
 use Rattle.cm_top.proofs.top.run_scheduled.Goals as goal

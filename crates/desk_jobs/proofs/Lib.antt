@@ -1,0 +1,3 @@
+pub mod DoneLemmas
+pub mod LiveLemmas
+pub mod AloneLemmas

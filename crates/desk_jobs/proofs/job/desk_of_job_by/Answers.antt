@@ -1,0 +1,31 @@
+use Rattle.desk_turns.proofs.RulesLemmas.{rules_few, rules_lines}
+use Rattle.desk_jobs.proofs.DoneLemmas.{run_done, steps_done}
+use Rattle.desk_jobs.proofs.job.desk_of_job_by.Goals as goal
+
+-- a script that meets the rules has few sessions, with lines that they can make
+pub run_job_by-requires : goal.run_job_by-requires
+run_job_by-requires g c = (
+  c.type_bounds.send-C,
+  (c.type_bounds.sync-R, (rules_few _ c.requires.rules, rules_lines _ c.requires.rules)),
+)
+
+pub run_in_steps_by-requires : goal.run_in_steps_by-requires
+run_in_steps_by-requires g c = (
+  c.type_bounds.send-C,
+  (c.type_bounds.sync-R, (rules_few _ c.requires.rules, rules_lines _ c.requires.rules)),
+)
+
+-- the job was made to its end
+pub returns-in_ok-run_job_by-in-Run : goal.returns-in_ok-run_job_by-in-Run
+returns-in_ok-run_job_by-in-Run g c =
+    rw c.in-Run.is
+    (run_done (record { description = c.args.checked; script = c.args.script.now }) c.args.stock _ _ c.requires.rules
+    c.in_ok-run_job_by-in-Run.ensures.opening c.in_ok-run_job_by-in-Run.ensures.scheduled c.into_desk.ensures.desk
+    c.into_desk.ensures.right)
+
+pub returns-in_ok-run_in_steps_by-in-Steps : goal.returns-in_ok-run_in_steps_by-in-Steps
+returns-in_ok-run_in_steps_by-in-Steps g c =
+    rw c.in-Steps.is
+    (steps_done (record { description = c.args.checked; script = c.args.script.now }) c.args.stock _ _ c.requires.rules
+    c.in_ok-run_in_steps_by-in-Steps.ensures.opening c.in_ok-run_in_steps_by-in-Steps.ensures.scheduled
+    c.into_desk-in-Steps.ensures.desk c.into_desk-in-Steps.ensures.right)

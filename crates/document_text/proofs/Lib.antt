@@ -1,0 +1,4 @@
+pub mod PartsLemmas
+pub mod PlainLemmas
+pub mod TracedLemmas
+pub mod RulesLemmas

@@ -1,0 +1,4 @@
+pub mod Plain
+pub mod Parts
+pub mod Traced
+pub mod Wished
