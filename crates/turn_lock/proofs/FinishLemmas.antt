@@ -1,16 +1,15 @@
 -- One seat that all others were joined into knows what each of them knew.
 use Rattle.std.proofs.Common.{◌≡◌, ℕ, zero, suc, ◌<◌, ◌≤◌, ◌==◌, Bool, true, false, cond}
-use Rattle.std.proofs.Common.{List, [], ◌∷◌, ◌++◌, map, get_or, All, Contains, None, refl}
+use Rattle.std.proofs.Common.{List, [], ◌∷◌, ◌++◌, map, length, get_or, All, Contains, None, refl}
+use Rattle.std.proofs.Math.Seq.{take-append_seam, drop-append_seam}
 use Rattle.std.proofs.Common.{sym, ap, ◌∙◌, subst, arith, true≢false, eq-eqb, append_assoc}
 use native.Mathlib.Decide.{dec_le}
 use mathlib.Core.Option.{some, some-injective}
 use lib.ListN.{get_elem?}
-use Rattle.std.specs.declared.snapshot.Snapshot.{Snapshot}
-use Rattle.atomic_table.specs.Table.{Me, Joins, Final, Seen}
-use Rattle.std.proofs.lemmas.List.Elements.{All-cons, All-tail, All-append, Contains-append_left, Contains-append_right}
+use Rattle.atomic_table.specs.Table.{Final, Seen}
+use Rattle.std.proofs.lemmas.List.Elements.{All-cons, All-tail, All-push, All-take, All-drop, Contains-append_left}
+use Rattle.std.proofs.lemmas.List.Elements.{Contains-append_right}
 use Rattle.turn_lock.specs.declared.kept.Kept.{Ghosts}
-use Rattle.turn_lock.specs.declared.kept.Shown.{Shown}
-use Rattle.turn_lock.specs.declared.kept.Shown.TheVariants.{Cycles, Tickets}
 use Rattle.turn_lock.specs.declared.lock.TurnLock.{TurnLock}
 use Rattle.turn_lock.specs.declared.pass.TurnPass.{TurnPass}
 use Rattle.turn_lock.specs.declared.table.Spot.{Spot}
@@ -20,19 +19,15 @@ use Rattle.turn_lock.specs.Calls.Finish.{Keeps, Finishes, Agrees, Covers, Gather
 use Rattle.turn_lock.specs.Entries.{of}
 use Rattle.turn_lock.specs.Passes.{view, seats_of}
 use Rattle.turn_lock.specs.Rule.{Saw, Ruled}
-use Rattle.turn_lock.specs.Stands.{stands}
-use Rattle.turn_lock.specs.Views.{known, joined, spent}
-use Rattle.turn_lock.proofs.PassLemmas.{idle}
-use Rattle.turn_lock.proofs.SeatLemmas.{joins, ends}
+use Rattle.turn_lock.specs.Views.{joined}
+use Rattle.turn_lock.proofs.SeatLemmas.{known_joined, ends}
 
 module _ {A : Type 0} (P : A → Type 0) where
   pub all_left : (xs ys : List A) → All P (xs ++ ys) → All P xs
-  all_left [] ys all = λ k d lt. absurd (omega arith)
-  all_left (x ∷ xs) ys all = All-cons P x xs (all 0 x (omega arith)) (all_left xs ys (All-tail P x (xs ++ ys) all))
+  all_left xs ys all = subst (All P) (take-append_seam xs ys) (All-take P (length xs) (xs ++ ys) all)
 
   pub all_right : (xs ys : List A) → All P (xs ++ ys) → All P ys
-  all_right [] ys all = all
-  all_right (x ∷ xs) ys all = all_right xs ys (All-tail P x (xs ++ ys) all)
+  all_right xs ys all = subst (All P) (drop-append_seam xs ys) (All-drop P (length xs) (xs ++ ys) all)
 
 module _ {E G : Type 0} (caller : E → ℕ) where
   pub covers_self : (v : SeatView E G) → Covers caller v v
@@ -44,14 +39,6 @@ module _ {E G : Type 0} (caller : E → ℕ) where
     numbers = λ n c. a.numbers n (b.numbers n c);
     knows = λ which. let x = a.knows which in let y = b.knows which in omega arith;
   }
-
-  knows_left : (v w : SeatView E G) (which : Shown) → (known which v).number ≤ (known which (joined v w)).number
-  knows_left v w Cycles = omega arith
-  knows_left v w Tickets = omega arith
-
-  knows_right : (v w : SeatView E G) (which : Shown) → (known which w).number ≤ (known which (joined v w)).number
-  knows_right v w Cycles = omega arith
-  knows_right v w Tickets = omega arith
 
   rest : (v w : SeatView E G) (log : List E) → Agrees caller log (joined v w)
       → All (λ t. Saw caller log t.0 t.1) (v.absorbed ++ w.absorbed)
@@ -68,7 +55,7 @@ module _ {E G : Type 0} (caller : E → ℕ) where
           all_left (λ t. Saw caller log t.0 t.1) v.absorbed w.absorbed (rest v w log a);
     };
     numbers = λ n c. Contains-append_left v.mine w.mine n c;
-    knows = knows_left v w;
+    knows = λ which. let k = ap (λ x. x.number) (known_joined which v w) in omega arith;
   }
 
   pub covers_right : (v w : SeatView E G) → Covers caller (joined v w) w
@@ -79,7 +66,7 @@ module _ {E G : Type 0} (caller : E → ℕ) where
           all_right (λ t. Saw caller log t.0 t.1) v.absorbed w.absorbed (rest v w log a);
     };
     numbers = λ n c. Contains-append_right v.mine w.mine n c;
-    knows = knows_right v w;
+    knows = λ which. let k = ap (λ x. x.number) (known_joined which v w) in omega arith;
   }
 
   pub covers_first : (v w u first : SeatView E G) → u ≡ joined v w → Covers caller v first → Covers caller u first
@@ -122,49 +109,22 @@ mine_of (p ∷ ps) v all n (suc k, lt, is) =
     mine_of ps v (All-tail (λ q. (n : ℕ) → Contains (view q).mine n → Contains v.mine n) p ps all) n
     (k, omega arith, is)
 
-home_same : {K : Type 0} (a b : K) → Home a ≡ Home b → a ≡ b
-home_same a b e = cc
+-- the value that is home at the end, if this is what was in the slot
+abbrev pub Ended : {K E G : Type 0} (m : Ghosts K E G) (seats : ℕ) (v : SeatView E G) → Spot K → Type 0
+Ended m seats v (Home kept) = Ends m seats v kept
+Ended m seats v Away = ⊥
+Ended m seats v (Counted named) = ⊥
 
-module _ {K E G : Type 0} (m : Ghosts K E G) (footing : G) (seats : ℕ) where
-  -- what is taken out of the slot at the end is the value
-  home_is : (i : ℕ) (v : SeatView E G) → (v.alive ≡ true) × (v.holds ≡ false)
-      → ((n : ℕ) → n < seats → Contains v.mine n)
-      → (ws : List ℕ) (xs : List (Spot K)) → Final (Seen (Ruled m footing seats) i v) ws xs → (home : Spot K)
-      → get_elem? xs 0 ≡ some home
-      → (kept : K) × (home ≡ Home kept) × Ends m seats v kept
-  home_is i v idle all ws xs final home there =
-      let e = ends m footing seats i v idle.0 idle.1 all ws xs final in
-      (e.0, some-injective _ _ (sym there ∙ e.1), e.2)
-
-  pub not_away : (i : ℕ) (v : SeatView E G) → (v.alive ≡ true) × (v.holds ≡ false)
-      → ((n : ℕ) → n < seats → Contains v.mine n)
-      → (ws : List ℕ) (xs : List (Spot K)) → Final (Seen (Ruled m footing seats) i v) ws xs → (home : Spot K)
-      → get_elem? xs 0 ≡ some home → home ≡ Away → ⊥
-  not_away i v idle all ws xs final home there away =
-      let is = (home_is i v idle all ws xs final home there).1 in absurd (cc)
-
-  pub not_counted : (i : ℕ) (v : SeatView E G) → (v.alive ≡ true) × (v.holds ≡ false)
-      → ((n : ℕ) → n < seats → Contains v.mine n)
-      → (ws : List ℕ) (xs : List (Spot K)) → Final (Seen (Ruled m footing seats) i v) ws xs → (home : Spot K)
-      → get_elem? xs 0 ≡ some home → (named : Snapshot K) → home ≡ Counted named → ⊥
-  not_counted i v idle all ws xs final home there named counted =
-      let is = (home_is i v idle all ws xs final home there).1 in absurd (cc)
-
-  pub ended : (i : ℕ) (v : SeatView E G) → (v.alive ≡ true) × (v.holds ≡ false)
-      → ((n : ℕ) → n < seats → Contains v.mine n)
-      → (ws : List ℕ) (xs : List (Spot K)) → Final (Seen (Ruled m footing seats) i v) ws xs → (home : Spot K)
-      → get_elem? xs 0 ≡ some home → (kept : K) → home ≡ Home kept → Ends m seats v kept
-  ended i v idle all ws xs final home there kept is =
-      let e = home_is i v idle all ws xs final home there in
-      subst (Ends m seats v) (home_same e.0 kept (sym e.1 ∙ is)) e.2
+-- what is taken out of the slot at the end is the value
+pub ended : {K E G : Type 0} (m : Ghosts K E G) (footing : G) (seats : ℕ) (i : ℕ) (v : SeatView E G)
+    → (v.alive ≡ true) × (v.holds ≡ false) → ((n : ℕ) → n < seats → Contains v.mine n)
+    → (ws : List ℕ) (xs : List (Spot K)) → Final (Seen (Ruled m footing seats) i v) ws xs
+    → (home spot : Spot K) → get_elem? xs 0 ≡ some home → home ≡ spot → Ended m seats v spot
+ended m footing seats i v idle all ws xs final home spot there is =
+    let e = ends m footing seats i v idle.0 idle.1 all ws xs final in
+    subst (Ended m seats v) (some-injective _ _ (sym e.1 ∙ there) ∙ is) e.2
 
 -- ---- The passes in a row
-
-pub next_of : {A : Type 0} (P : A → Type 0) (xs ys : List A) (x : A) → xs ≡ x ∷ ys → All P xs → P x
-next_of P xs ys x is all = (subst (All P) is all) 0 x (omega arith)
-
-pub rest_of : {A : Type 0} (P : A → Type 0) (xs ys : List A) (x : A) → xs ≡ x ∷ ys → All P xs → All P ys
-rest_of P xs ys x is all = All-tail P x ys (subst (All P) is all)
 
 pub moved_on : {A : Type 0} (taken xs ys all : List A) (x : A) → xs ≡ x ∷ ys → taken ++ xs ≡ all
     → (taken ++ x ∷ []) ++ ys ≡ all
@@ -174,18 +134,9 @@ module _ {K E G : Type 0} {g : Ghosts K E G} (caller : E → ℕ) where
   pub covers_next : (v u : SeatView E G) (ps : List (TurnPass K E G g)) (p : TurnPass K E G g) → u ≡ joined v (view p)
       → All (λ q. Covers caller v (view q)) ps → All (λ q. Covers caller u (view q)) (ps ++ p ∷ [])
   covers_next v u ps p is all =
-      let P = λ (q : TurnPass K E G g). Covers caller u (view q) in
-      All-append P ps (p ∷ [])
+      All-push (λ (q : TurnPass K E G g). Covers caller u (view q)) ps p
       (λ k d lt. covers_first caller v (view p) u (view (get_or ps k d)) is (all k d lt))
-      (All-cons P p [] (subst (λ x. Covers caller x (view p)) (sym is) (covers_right caller v (view p)))
-      (λ k d lt. absurd (omega arith)))
-
-module _ {K E G : Type 0} (m : Ghosts K E G) (footing : G) (seats : ℕ) where
-  pub joins_idle : (i : ℕ) (v : SeatView E G) (other : ℕ) (me : Me (Spot K) (SeatView E G)) → v.number ≡ None
-      → v.holds ≡ false → v.alive ≡ true → me.0.holds ≡ false → stands me ≡ true
-      → Joins (Ruled m footing seats) i v other me.0 (joined v me.0) spent
-  joins_idle i v other me idle_ waits alive waits' right =
-      joins m footing seats i v other me.0 idle_ waits (idle me right waits').number waits' alive
+      (subst (λ x. Covers caller x (view p)) (sym is) (covers_right caller v (view p)))
 
 -- ---- What `finish` promises, from what the one seat knows
 

@@ -1,10 +1,11 @@
 -- Lemmas on lists: those of prefixes, of the entries of one number, and of the views in a row.
-use Rattle.std.proofs.Common.{◌≡◌, ◌≢◌, ◌⊎◌, ℕ, zero, suc, ◌+◌, ◌<◌, ◌≤◌, ◌==◌, Bool, true, false, cond, ltb, List}
+use Rattle.std.proofs.Common.{◌≡◌, ◌≢◌, ◌⊎◌, ℕ, zero, suc, ◌+◌, ◌<◌, ◌≤◌, ◌==◌, cond, ltb, List}
 use Rattle.std.proofs.Common.{[], ◌∷◌, ◌++◌, length, get_or, set, sum_by, Contains, refl, sym, ap, ◌∙◌, subst, inl}
 use Rattle.std.proofs.Common.{inr, ⊎_elim, arith, append_assoc, append-nil, ltb-true, ltb-false, ne_eqb}
 use mathlib.Core.List.{IsPrefix}
 use mathlib.Core.Option.{some, some-injective, some-ne-none}
 use lib.ListN.{get_elem?}
+use Rattle.std.proofs.lemmas.Bool.{cond_both}
 use Rattle.std.proofs.lemmas.List.{append_cancel_left}
 use Rattle.std.proofs.lemmas.List.Elements.{filter-append}
 use Rattle.std.proofs.lemmas.List.Sums.{sum_by-cons, sum_by-set}
@@ -77,11 +78,9 @@ module _ {E : Type 0} (caller : E → ℕ) where
 module _ {E : Type 0} where
   pub longer_is : (P : List E → Type 0) (xs ys : List E) → (length ys ≤ length xs → P xs)
       → (length xs < length ys → P ys) → P (longer xs ys)
-  longer_is P xs ys first second = by (ltb (length xs) (length ys)) refl
-    where
-      by : (b : Bool) → ltb (length xs) (length ys) ≡ b → P (cond b ys xs)
-      by true is = second (ltb-true (length xs) (length ys) is)
-      by false is = first (ltb-false (length xs) (length ys) is)
+  longer_is P xs ys first second =
+      cond_both (ltb (length xs) (length ys)) ys xs P (λ e. second (ltb-true (length xs) (length ys) e))
+      (λ e. first (ltb-false (length xs) (length ys) e))
 
 -- ---- A row of which one item changes
 

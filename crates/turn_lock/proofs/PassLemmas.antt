@@ -1,10 +1,10 @@
 -- What follows of a pass's seat from that it stands right, and its steps after a write to the slot that it holds.
-use Rattle.std.proofs.Common.{◌≡◌, ℕ, ◌+◌, ◌%◌, ◌^◌, ◌<◌, ◌==◌, Bool, true, false, not, ◌&&◌}
+use Rattle.std.proofs.Common.{◌≡◌, ℕ, ◌+◌, ◌%◌, ◌^◌, ◌<◌, ◌==◌, true, false, not, ◌&&◌}
 use Rattle.std.proofs.Common.{cond, List, [], ◌∷◌, length, Contains, Option, Some, None}
 use Rattle.std.proofs.Common.{is_none, refl, sym, ap, ◌∙◌, subst, arith, true≢false, eqb-true}
 use mathlib.Core.Option.{none}
 use Rattle.std.specs.declared.snapshot.Snapshot.{Snapshot}
-use Rattle.std.proofs.lemmas.Bool.{not-true}
+use Rattle.std.proofs.lemmas.Bool.{and_parts, not-true}
 use Rattle.atomic_table.specs.Table.{Me, step, Allows, rest}
 use Rattle.turn_lock.specs.declared.kept.Kept.{Ghosts}
 use Rattle.turn_lock.specs.declared.kept.Shown.{Shown}
@@ -15,17 +15,13 @@ use Rattle.turn_lock.specs.declared.table.Spot.TheVariants.{Home, Counted}
 use Rattle.turn_lock.specs.declared.view.SeatView.{SeatView}
 use Rattle.turn_lock.specs.Stands.{is_emptied, has_slot, is_nil, is_idle, stands}
 use Rattle.turn_lock.specs.Rule.{Ruled}
-use Rattle.turn_lock.specs.Steps.{atomic_word_of, drawn, Hit, looked, counts, publishes, loads, passes_on}
+use Rattle.turn_lock.specs.Steps.{atomic_word_of, Hit, looked, counts, publishes, loads, passes_on}
 use Rattle.turn_lock.specs.Calls.Count.{AddsOne}
 use Rattle.turn_lock.specs.Calls.Put.{IsSettled}
 use Rattle.turn_lock.specs.Calls.Take.{Waits}
 use Rattle.turn_lock.specs.Passes.{view}
 use Rattle.turn_lock.specs.Views.{known}
-use Rattle.turn_lock.proofs.StepLemmas.{some_step, draws, looks, counts_one, publishes_one, loads_one, passes}
-
-both : (a b : Bool) → (a && b) ≡ true → (a ≡ true) × (b ≡ true)
-both true b e = (refl, e)
-both false b e = absurd (true≢false (sym e))
+use Rattle.turn_lock.proofs.StepLemmas.{some_step, counts_one, publishes_one, loads_one, passes}
 
 nil_is : {A : Type 0} (xs : List A) → is_nil xs ≡ true → xs ≡ []
 nil_is [] e = refl
@@ -39,7 +35,7 @@ slot_is : {K : Type 0} (slots : List (ℕ × Spot K)) → has_slot slots ≡ tru
     → (spot : Spot K) × (slots ≡ (0, spot) ∷ []) × (is_emptied spot ≡ true)
 slot_is [] e = absurd (true≢false (sym e))
 slot_is ((k, x) ∷ []) e =
-    let b = both (k == 0) (is_emptied x) e in let is : k ≡ 0 = eqb-true k 0 b.0 in (x, (λ i. (is i, x) ∷ []), b.1)
+    let b = and_parts (k == 0) (is_emptied x) e in let is : k ≡ 0 = eqb-true k 0 b.0 in (x, (λ i. (is i, x) ∷ []), b.1)
 slot_is (x ∷ y ∷ xs) e = absurd (true≢false (sym e))
 
 module _ {E G : Type 0} where
@@ -58,7 +54,7 @@ module _ {K E G : Type 0} where
 
   pub holder : (me : Me (Spot K) (SeatView E G)) → stands me ≡ true → me.0.holds ≡ true → Holder me
   holder me e holds =
-      let b = both (is_nil me.0.absorbed) (cond me.0.holds (has_slot me.1) (is_idle me)) e in
+      let b = and_parts (is_nil me.0.absorbed) (cond me.0.holds (has_slot me.1) (is_idle me)) e in
       let s = slot_is me.1 (subst (λ h. cond h (has_slot me.1) (is_idle me) ≡ true) holds b.1) in
       record { spot = s.0; slot = s.1; emptied = s.2; absorbed = nil_is me.0.absorbed b.0 }
 
@@ -72,11 +68,11 @@ module _ {K E G : Type 0} where
 
   pub idle : (me : Me (Spot K) (SeatView E G)) → stands me ≡ true → me.0.holds ≡ false → Idle me
   idle me e waits =
-      let b = both (is_nil me.0.absorbed) (cond me.0.holds (has_slot me.1) (is_idle me)) e in
+      let b = and_parts (is_nil me.0.absorbed) (cond me.0.holds (has_slot me.1) (is_idle me)) e in
       let i : is_idle me ≡ true = subst (λ h. cond h (has_slot me.1) (is_idle me) ≡ true) waits b.1 in
-      let x = both (is_none me.0.number && is_nil me.1 && not me.0.cycles.owes) (not me.0.tickets.owes) i in
-      let y = both (is_none me.0.number && is_nil me.1) (not me.0.cycles.owes) x.0 in
-      let z = both (is_none me.0.number) (is_nil me.1) y.0 in
+      let x = and_parts (is_none me.0.number && is_nil me.1 && not me.0.cycles.owes) (not me.0.tickets.owes) i in
+      let y = and_parts (is_none me.0.number && is_nil me.1) (not me.0.cycles.owes) x.0 in
+      let z = and_parts (is_none me.0.number) (is_nil me.1) y.0 in
       record {
         number = none_is me.0.number z.0;
         slot = nil_is me.1 z.1;
@@ -92,17 +88,6 @@ module _ {K E G : Type 0} where
   slot_held me e holds = let h = holder me e holds in (h.spot, subst (λ l. l ≡ (0, h.spot) ∷ rest l) (sym h.slot) refl)
 
 module _ {K E G : Type 0} (m : Ghosts K E G) (footing : G) (seats : ℕ) where
-  pub draws_idle : (slots : ℕ) (i : ℕ) (me : Me (Spot K) (SeatView E G))
-      → (me.0.alive ≡ true) × (me.0.holds ≡ false) × (stands me ≡ true)
-      → Allows (Ruled m footing seats) slots i me 0 (λ n. (n + 1) % 2 ^ 64) (drawn some_step me)
-  draws_idle slots i me (alive, waits, right) = draws m footing seats slots i me alive (idle me right waits).number
-
-  pub looks_waiting : (slots : ℕ) (i : ℕ) (me : Me (Spot K) (SeatView E G)) (mine : ℕ) → Waits me me mine
-      → Allows (Ruled m footing seats) slots i me 1 (λ n. n) (looked m some_step me)
-  looks_waiting slots i me mine w =
-      looks m footing seats slots i me w.ticket w.alive (ap (λ (x : Me (Spot K) (SeatView E G)). x.0.number) w.is)
-      w.waits (ap (λ (x : Me (Spot K) (SeatView E G)). x.1) w.is)
-
   pub publishes_at : (slots : ℕ) (i : ℕ) (me : Me (Spot K) (SeatView E G)) (which : Shown) (word n : ℕ)
       → word ≡ atomic_word_of which → me.0.holds ≡ true → n ≡ m.shown which me.0.seen
       → Allows (Ruled m footing seats) slots i me word (λ _. n) (λ _. publishes (step slots word n 0 none) me n)

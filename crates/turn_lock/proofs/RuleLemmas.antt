@@ -1,5 +1,5 @@
 -- The rule is kept where one seat changes, and where a seat is new.
-use Rattle.std.proofs.Common.{false, ◌<◌, true≢false, All, Contains, ◌≡◌, ◌≢◌, ◌⊎◌, ℕ, ◌+◌}
+use Rattle.std.proofs.Common.{false, ◌<◌, true≢false, ◌≡◌, ◌≢◌, ◌⊎◌, ℕ, ◌+◌}
 use Rattle.std.proofs.Common.{◌≤◌, true, List, [], ◌∷◌, ◌++◌, length, set, sum_by, Option}
 use Rattle.std.proofs.Common.{Some, None, sym, ap, ◌∙◌, subst, inl, inr, ⊎_elim, arith}
 use mathlib.Core.Logic.{dite}
@@ -15,8 +15,8 @@ use Rattle.turn_lock.specs.declared.view.SeatView.{SeatView}
 use Rattle.turn_lock.specs.declared.kept.Kept.{Ghosts}
 use Rattle.turn_lock.specs.Entries.{of}
 use Rattle.turn_lock.specs.Views.{known}
-use Rattle.turn_lock.specs.Rule.{LockState, atomic_words, value, out, living, Saw}
-use Rattle.turn_lock.specs.Rule.{Absorbed, Posted, Apart, Fits, IsHome, IsOut, Ruled}
+use Rattle.turn_lock.specs.Rule.{LockState, atomic_words, value, out, living, Learned}
+use Rattle.turn_lock.specs.Rule.{Posted, Owns, Apart, Fits, IsHome, IsOut, Ruled}
 use Rattle.turn_lock.proofs.ListLemmas.{at_get, sum_set, every_set, pairs_set, snoc_at}
 
 pub some_none : {C : Type 0} (a : Option ℕ) (n : ℕ) → a ≡ None → a ≡ Some n → C
@@ -32,6 +32,12 @@ module _ {E G : Type 0} where
     numbers = λ n e h. a.numbers n h e;
     counts = λ k l e h. a.counts l k h e;
   }
+
+-- the slot is away with the seat that changes
+pub is_out : {K E G : Type 0} (homes : List (Maybe (Spot K))) (views : List (SeatView E G)) (i : ℕ) (v w : SeatView E G)
+    → get_elem? views i ≡ some v → homes ≡ none ∷ [] → w.holds ≡ true → IsOut homes (set views i w)
+is_out homes views i v w at away holds =
+    record { away = away; seat = i; holder = w; sits = set_here views i w ((at_get views i v at).0); holds = holds }
 
 module _ {K E G : Type 0} (m : Ghosts K E G) (footing : G) (seats : ℕ) where
   -- the seat i goes from v to w, and with it the words, the slot and where the lock stands
@@ -52,18 +58,15 @@ module _ {K E G : Type 0} (m : Ghosts K E G) (footing : G) (seats : ℕ) where
   change s r i v w at ws hs t words_are tickets alive given callers published mine others slot =
       let outs = sum_set out s.views i v w at in
       let lives = sum_set living s.views i v w at in
-      let many = r.as_many in
-      let few = r.few in
-      let most = r.most in
       let other : (j : ℕ) (u : SeatView E G) → j ≢ i → get_elem? s.views j ≡ some u
       → Fits m footing hs t u × Apart w u =
       λ j u apart e. others j u apart e (r.apart i j v u (λ h. apart (sym h)) at e) (r.fits j u e) in
       record {
         at = t;
         words_are = words_are;
-        as_many = omega arith;
-        few = omega arith;
-        most = (given.1, most.1);
+        as_many = omega (arith, r.as_many);
+        few = omega (arith, r.few);
+        most = (given.1, r.most.1);
         callers = callers;
         published = published;
         fits = every_set (Fits m footing hs t) s.views i w mine (λ j u apart e. (other j u apart e).0);
@@ -82,15 +85,10 @@ module _ {K E G : Type 0} (m : Ghosts K E G) (footing : G) (seats : ℕ) where
     where
       still : IsOut s.homes s.views → IsOut s.homes (set s.views i w)
       still o = dite (ℕ_discrete o.seat i)
-          (λ here. record {
-            away = o.away;
-            seat = i;
-            holder = w;
-            sits = set_here s.views i w ((at_get s.views i v at).0);
-            holds = holds
-                (subst (λ (u : SeatView E G). u.holds ≡ true)
-                (some-injective _ _ (sym o.sits ∙ ap (get_elem? s.views) here ∙ at)) o.holds);
-          })
+          (λ here. is_out s.homes s.views i v w at o.away
+          (holds
+          (subst (λ (u : SeatView E G). u.holds ≡ true)
+          (some-injective _ _ (sym o.sits ∙ ap (get_elem? s.views) here ∙ at)) o.holds)))
           (λ there. record {
             away = o.away;
             seat = o.seat;
@@ -98,6 +96,20 @@ module _ {K E G : Type 0} (m : Ghosts K E G) (footing : G) (seats : ℕ) where
             sits = set_else s.views i o.seat w there ∙ o.sits;
             holds = o.holds;
           })
+
+  -- where a seat is out of turn, and so is each that is apart from it, the value is at home
+  pub at_home : (s : State (Spot K) (SeatView E G)) (r : Ruled m footing seats s) (i : ℕ) (v : SeatView E G)
+      → get_elem? s.views i ≡ some v → v.holds ≡ false
+      → ((u : SeatView E G) → Fits m footing s.homes r.at u → u.holds ≡ true → Apart v u → ⊥)
+      → IsHome m footing s.homes r.at
+  at_home s r i v at waits others = ⊎_elim (λ h. h) (λ (o : IsOut s.homes s.views). absurd (not_out o)) r.slot
+    where
+      not_out : IsOut s.homes s.views → ⊥
+      not_out o = dite (ℕ_discrete o.seat i)
+          (λ here. let same : o.holder ≡ v = some-injective _ _ (sym o.sits ∙ ap (get_elem? s.views) here ∙ at) in
+          true≢false (sym o.holds ∙ ap (λ (u : SeatView E G). u.holds) same ∙ waits))
+          (λ there. others o.holder (r.fits o.seat o.holder o.sits) o.holds
+          (r.apart i o.seat v o.holder (λ h. there (sym h)) at o.sits))
 
   -- while one seat waits with the served ticket, or holds the turn, no other seat holds it
   pub others_wait : (homes : List (Maybe (Spot K))) (t : LockState E) (v u : SeatView E G) → v.number ≡ Some t.serving
@@ -113,38 +125,25 @@ module _ {K E G : Type 0} (m : Ghosts K E G) (footing : G) (seats : ℕ) where
       → (u.holds ≡ true → (u.number ≡ Some serving) × (u.seen ≡ t.log) × (homes ≡ none ∷ []))
       → Fits m footing homes (record t { ticket = ticket; serving = serving }) u
   still_fits hs homes t ticket serving u f within turn = record {
-    one = f.one;
-    within = within;
+    queue = record { one = f.one; within = within };
     turn = turn;
-    saw = f.saw;
-    absorbed = f.absorbed;
-    ground_is = f.ground_is;
-    given = f.given;
-    owner = f.owner;
-    counts = f.counts;
+    learned = f.learned;
+    owns = f.owns;
     posted = f.posted;
   }
 
   -- a seat without a ticket
   pub idle_fits : (homes : List (Maybe (Spot K))) (t : LockState E) (v : SeatView E G) → v.number ≡ None
       → v.holds ≡ false
-      → Saw m.caller t.log v.mine v.seen → All (Absorbed m.caller t.log v.mine) v.absorbed
-      → (v.alive ≡ true → v.footing ≡ Some footing)
-      → ((n : ℕ) → Contains v.mine n → n < t.given) → (v.alive ≡ true → (n : ℕ) × Contains v.mine n)
-      → ((k : ℕ) → v.given ≡ Some k → k ≡ t.given)
+      → Learned m.caller t.log v.mine v.seen v.absorbed → Owns footing t.given v.alive v.footing v.mine v.given
       → ((which : Shown) → Posted (value which t) (m.shown which) (known which v) v.holds v.seen)
       → Fits m footing homes t v
-  idle_fits homes t v idle waits saw absorbed ground_is given owner counts posted =
+  idle_fits homes t v idle waits learned owns posted =
       let none : out v ≡ 0 = rw idle in record {
-        one = omega arith;
-        within = λ n e. some_none v.number n idle e;
+        queue = record { one = omega arith; within = λ n e. some_none v.number n idle e };
         turn = λ h. absurd (true≢false (sym h ∙ waits));
-        saw = saw;
-        absorbed = absorbed;
-        ground_is = ground_is;
-        given = given;
-        owner = owner;
-        counts = counts;
+        learned = learned;
+        owns = owns;
         posted = posted;
       }
 
@@ -156,7 +155,6 @@ module _ {K E G : Type 0} (m : Ghosts K E G) (footing : G) (seats : ℕ) where
       → ((j : ℕ) (u : SeatView E G) → get_elem? s.views j ≡ some u → Apart u w)
       → Ruled m footing seats (record { words = s.words; homes = s.homes; views = s.views ++ w ∷ [] })
   enter s r w few idle mine others =
-      let many = r.as_many in
       let none : out w ≡ 0 = rw idle in
       let all : (j : ℕ) (u : SeatView E G) → get_elem? (s.views ++ w ∷ []) j ≡ some u → Fits m footing s.homes r.at u =
       λ j u e. ⊎_elim (λ (old : get_elem? s.views j ≡ some u). r.fits j u old)
@@ -164,7 +162,7 @@ module _ {K E G : Type 0} (m : Ghosts K E G) (footing : G) (seats : ℕ) where
       record {
         at = r.at;
         words_are = r.words_are;
-        as_many = omega (arith, sum_by_push out s.views w);
+        as_many = omega (arith, r.as_many, sum_by_push out s.views w);
         few = omega (arith, sum_by_push living s.views w);
         most = r.most;
         callers = r.callers;

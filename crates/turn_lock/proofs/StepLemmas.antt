@@ -1,16 +1,16 @@
 -- Each kind of step of one seat keeps the rule.
 use Rattle.std.proofs.Common.{◌≡◌, ◌≢◌, ℕ, ◌+◌, ◌%◌, ◌^◌, ◌<◌, ◌≤◌, true, false, List, [], ◌∷◌}
 use Rattle.std.proofs.Common.{◌++◌, length, get_or, set, All, Contains, sum_by, Some, None}
-use Rattle.std.proofs.Common.{refl, sym, ap, ◌∙◌, subst, inl, inr, ⊎_elim, arith, true≢false}
+use Rattle.std.proofs.Common.{refl, sym, ap, ◌∙◌, subst, inl, inr, arith, true≢false}
 use mathlib.Core.Logic.{dite}
 use mathlib.Core.List.{IsPrefix}
-use mathlib.Core.Option.{Option as Maybe, none, some, some-injective}
+use mathlib.Core.Option.{Option as Maybe, none, some}
 use native.Mathlib.Decide.{ℕ_discrete}
 use lib.ListN.{get_elem?}
 use Rattle.std.specs.declared.snapshot.Snapshot.{Snapshot}
 use Rattle.std.proofs.lemmas.Option.{same_Some}
 use Rattle.atomic_table.specs.Table.{State, Me, Step, step, keeps, takes, gives, Allows, homes_after, rest}
-use Rattle.atomic_table.proofs.Lists.{one_turn, set_here}
+use Rattle.atomic_table.proofs.Lists.{one_turn}
 use Rattle.turn_lock.specs.declared.kept.Shown.{Shown}
 use Rattle.turn_lock.specs.declared.table.Spot.{Spot}
 use Rattle.turn_lock.specs.declared.table.Spot.TheVariants.{Home, Counted}
@@ -19,13 +19,20 @@ use Rattle.turn_lock.specs.declared.kept.Kept.{Ghosts}
 use Rattle.turn_lock.specs.Entries.{of}
 use Rattle.turn_lock.specs.Views.{known, waiting, at_turn, counted, published, loaded, passed_on}
 use Rattle.turn_lock.specs.Rule.{LockState, atomic_words, value, with_value, out}
-use Rattle.turn_lock.specs.Rule.{living, Saw, Absorbed, IsHome, IsOut, Ruled}
+use Rattle.turn_lock.specs.Rule.{living, Saw, Absorbed, Learned, Ruled}
+use Rattle.turn_lock.specs.Calls.Take.{Waits}
 use Rattle.turn_lock.specs.Steps.{atomic_word_of, drawn, looked, counts, publishes, Loads, loads, passes_on}
-use Rattle.turn_lock.proofs.ListLemmas.{at_get, sum_le, prefix_same, prefix_more, of_other}
-use Rattle.turn_lock.proofs.RuleLemmas.{some_none, same_number, change, slot_kept, still_fits, idle_fits, others_wait}
+use Rattle.turn_lock.proofs.ListLemmas.{sum_le, prefix_same, prefix_more, of_other}
+use Rattle.turn_lock.proofs.RuleLemmas.{some_none, same_number, is_out, change, slot_kept, at_home}
+use Rattle.turn_lock.proofs.RuleLemmas.{still_fits, idle_fits, others_wait}
 use Rattle.turn_lock.proofs.WordLemmas.{count_words, counted_posted, draw_words, load_finds, load_words}
 use Rattle.turn_lock.proofs.WordLemmas.{loaded_posted, named_in, pass_words, publish_words}
-use Rattle.turn_lock.proofs.WordLemmas.{published_posted, same_word, served_on, value_grows, value_within}
+use Rattle.turn_lock.proofs.WordLemmas.{published_posted, same_word, served_on, each_shown, value_grows}
+
+-- who has seen the whole list has seen all entries of its numbers
+all_seen : {E : Type 0} (caller : E → ℕ) (seen log : List E) (mine : List ℕ) → seen ≡ log → Saw caller log mine seen
+all_seen caller seen log mine is =
+    record { begins = subst (IsPrefix seen) is (prefix_same seen); own = λ n c. ap (of caller n) is }
 
 -- a step, where what it tells does not depend on which
 abbrev pub some_step : {S : Type 0} → Step S
@@ -39,10 +46,7 @@ module _ {K E G : Type 0} (m : Ghosts K E G) (footing : G) (seats : ℕ) where
       → r.at.serving % 2 ^ 64 ≡ n % 2 ^ 64 → r.at.serving ≡ n
   near s r n low high same =
       let few : sum_by out s.views ≤ sum_by living s.views = sum_le out living s.views (λ i v e. (r.fits i v e).one) in
-      let many = r.as_many in
-      let living_few = r.few in
-      let most = r.most in
-      one_turn r.at.serving n (2 ^ 64) low (omega arith) same
+      one_turn r.at.serving n (2 ^ 64) low (omega (arith, r.as_many, r.few, r.most)) same
 
   pub draws : (slots : ℕ) (i : ℕ) (me : Me (Spot K) (SeatView E G)) → me.0.alive ≡ true → me.0.number ≡ None
       → Allows (Ruled m footing seats) slots i me 0 (λ n. (n + 1) % 2 ^ 64) (drawn some_step me)
@@ -66,15 +70,13 @@ module _ {K E G : Type 0} (m : Ghosts K E G) (footing : G) (seats : ℕ) where
             r.callers
             r.published
             (record {
-              one = omega arith;
-              within = λ n e. let same : r.at.ticket ≡ n = cc in (omega arith, omega arith);
+              queue = record {
+                one = omega arith;
+                within = λ n e. let same : r.at.ticket ≡ n = cc in (omega arith, omega arith);
+              };
               turn = λ h. absurd (holds_not h);
-              saw = f.saw;
-              absorbed = f.absorbed;
-              ground_is = f.ground_is;
-              given = f.given;
-              owner = f.owner;
-              counts = f.counts;
+              learned = f.learned;
+              owns = f.owns;
               posted = f.posted;
             })
             (λ j u apart e a g. (
@@ -92,25 +94,13 @@ module _ {K E G : Type 0} (m : Ghosts K E G) (footing : G) (seats : ℕ) where
         (r.at.ticket, refl, ap (λ ws. get_or ws 0 0) r.words_are),
       )
 
-  -- the seat that waits with the served ticket finds the value at home
-  home_now : (s : State (Spot K) (SeatView E G)) (r : Ruled m footing seats s) (i : ℕ) (v : SeatView E G)
-      → get_elem? s.views i ≡ some v → v.holds ≡ false → v.number ≡ Some r.at.serving
-      → IsHome m footing s.homes r.at
-  home_now s r i v at waits mine = ⊎_elim (λ h. h) (λ (o : IsOut s.homes s.views). not_out o) r.slot
-    where
-      not_out : IsOut s.homes s.views → IsHome m footing s.homes r.at
-      not_out o = dite (ℕ_discrete o.seat i)
-          (λ here. let same : o.holder ≡ v = some-injective _ _ (sym o.sits ∙ ap (get_elem? s.views) here ∙ at) in
-          absurd (true≢false (sym o.holds ∙ ap (λ (u : SeatView E G). u.holds) same ∙ waits)))
-          (λ there. let f = r.fits o.seat o.holder o.sits in
-          absurd ((r.apart i o.seat v o.holder (λ h. there (sym h)) at o.sits).tickets r.at.serving mine
-          (f.turn o.holds).0))
-
-  pub looks : (slots : ℕ) (i : ℕ) (me : Me (Spot K) (SeatView E G)) (ticket : ℕ) → me.0.alive ≡ true
-      → me.0.number ≡ Some ticket → me.0.holds ≡ false → me.1 ≡ []
+  pub looks : (slots : ℕ) (i : ℕ) (me : Me (Spot K) (SeatView E G)) (word : ℕ) → Waits me me word
       → Allows (Ruled m footing seats) slots i me 1 (λ n. n) (looked m some_step me)
-  looks slots i me ticket alive mine waits empty s r long at small =
+  looks slots i me word wait s r long at small =
       let v = me.0 in
+      let ticket = wait.ticket in
+      let mine = ap (λ (x : Me (Spot K) (SeatView E G)). x.0.number) wait.is in
+      let empty = ap (λ (x : Me (Spot K) (SeatView E G)). x.1) wait.is in
       let f = r.fits i v at in
       let found : get_or s.words 1 0 ≡ r.at.serving % 2 ^ 64 = ap (λ ws. get_or ws 1 0) r.words_are in
       let same_words : set s.words 1 (get_or s.words 1 0) ≡ atomic_words r.at = rw r.words_are refl in
@@ -119,7 +109,8 @@ module _ {K E G : Type 0} (m : Ghosts K E G) (footing : G) (seats : ℕ) where
       (λ hit.
       let served : r.at.serving ≡ ticket = near s r ticket within.0 within.1 (sym found ∙ hit) in
       let mine' : v.number ≡ Some r.at.serving = mine ∙ ap Some (sym served) in
-      let h = home_now s r i v at waits mine' in
+      let h =
+      at_home m footing seats s r i v at wait.waits (λ u g holds a. a.tickets r.at.serving mine' (g.turn holds).0) in
       let list : m.entries h.kept ≡ r.at.log = h.list in
       let w = at_turn (m.entries h.kept) v in
       let gone : set s.homes 0 none ≡ none ∷ [] = rw h.there refl in (
@@ -134,19 +125,11 @@ module _ {K E G : Type 0} (m : Ghosts K E G) (footing : G) (seats : ℕ) where
             r.callers
             r.published
             (record {
-              one = f.one;
-              within = f.within;
+              queue = f.queue;
               turn = λ _. (mine', list, gone);
-              saw = record {
-                begins = subst (λ l. IsPrefix l r.at.log) (sym list) (prefix_same r.at.log);
-                own =
-                    λ n c. ap (of m.caller n) list;
-              };
-              absorbed = f.absorbed;
-              ground_is = f.ground_is;
-              given = f.given;
-              owner = f.owner;
-              counts = f.counts;
+              learned =
+                  record { saw = all_seen m.caller (m.entries h.kept) r.at.log v.mine list; absorbed = f.absorbed };
+              owns = f.owns;
               posted = λ which. let p = f.posted which in record {
                 knows = p.knows;
                 current = λ _. subst (λ l. m.shown which l ≤ value which r.at) (sym list) (h.current which);
@@ -158,21 +141,14 @@ module _ {K E G : Type 0} (m : Ghosts K E G) (footing : G) (seats : ℕ) where
                   (λ h. others_wait m footing seats s.homes r.at v u mine' a g h),
               record { tickets = a.tickets; numbers = a.numbers; counts = a.counts },
             ))
-            (inr (record {
-              away = gone;
-              seat = i;
-              holder = w;
-              sits = set_here s.views i w ((at_get s.views i v at).0);
-              holds =
-                  refl;
-            })),
+            (inr (is_out (set s.homes 0 none) s.views i v w at gone refl)),
         λ ticket' mine''. (
           (λ _. record {
             kept = h.kept;
             holds = ap (λ (l : List (ℕ × Spot K)). (w, (0, Home h.kept) ∷ l)) empty;
             begins = subst (IsPrefix v.seen) (sym list) f.saw.begins;
             own = λ n c. f.saw.own n c ∙ ap (of m.caller n) (sym list);
-            ground_is = f.ground_is alive ∙ ap Some (sym h.ground_is);
+            ground_is = f.ground_is wait.alive ∙ ap Some (sym h.ground_is);
           }),
           (λ miss. absurd (miss (hit ∙ ap (λ k. k % 2 ^ 64) (same_number v.number ticket ticket' mine mine'')))),
         ),
@@ -208,6 +184,15 @@ module _ {K E G : Type 0} (m : Ghosts K E G) (footing : G) (seats : ℕ) where
     own = λ n c. saw.own n c ∙ sym (ap (of m.caller n) more ∙ of_other m.caller n log e (other n c));
   }
 
+  learned_more : (log : List E) (e : E) (now : List E) (u : SeatView E G) → now ≡ log ++ e ∷ []
+      → ((n : ℕ) → Contains u.mine n → m.caller e ≢ n)
+      → Learned m.caller log u.mine u.seen u.absorbed → Learned m.caller now u.mine u.seen u.absorbed
+  learned_more log e now u more other l = record {
+    saw = saw_more log e now u.mine u.seen more other l.saw;
+    absorbed = λ k d lt. let x = l.absorbed k d lt in
+        record { saw = saw_more log e now _ _ more (λ n c. other n (x.within n c)) x.saw; within = x.within };
+  }
+
   pub counts_one : (slots : ℕ) (i : ℕ) (me : Me (Spot K) (SeatView E G)) (named : Snapshot K) (e : E)
       → me.1 ≡ (0, Counted named) ∷ [] → me.0.holds ≡ true → me.0.absorbed ≡ []
       → m.entries named.value ≡ me.0.seen ++ e ∷ [] → Contains me.0.mine (m.caller e)
@@ -238,45 +223,27 @@ module _ {K E G : Type 0} (m : Ghosts K E G) (footing : G) (seats : ℕ) where
             ∙ r.callers n high)
             shows
             (record {
-              one = f.one;
-              within = f.within;
+              queue = f.queue;
               turn = λ h. (turn.0, refl, turn.2);
-              saw = record { begins = prefix_same now; own = λ n c. refl };
-              absorbed = subst (All (Absorbed m.caller now v.mine)) (sym absorbed) (λ k d lt. absurd (omega arith));
-              ground_is = f.ground_is;
-              given = f.given;
-              owner = f.owner;
-              counts = f.counts;
+              learned = record {
+                saw = all_seen m.caller now now v.mine refl;
+                absorbed = subst (All (Absorbed m.caller now v.mine)) (sym absorbed) (λ k d lt. absurd (omega arith));
+              };
+              owns = f.owns;
               posted = counted_posted v now m.shown (λ which. value which r.at) f.posted holds;
             })
             (λ j u apart e' a g. (
               record {
-                one = g.one;
-                within = g.within;
+                queue = g.queue;
                 turn = λ h. others_wait m footing seats s.homes r.at v u turn.0 a g h;
-                saw = saw_more r.at.log e now u.mine u.seen longer_by
-                    (λ n c h. a.numbers n (subst (Contains v.mine) h own) c) g.saw;
-                absorbed = λ k d lt. let x = g.absorbed k d lt in record {
-                  saw = saw_more r.at.log e now _ _ longer_by
-                      (λ n c h. a.numbers n (subst (Contains v.mine) h own) (x.within n c)) x.saw;
-                  within = x.within;
-                };
-                ground_is = g.ground_is;
-                given = g.given;
-                owner = g.owner;
-                counts = g.counts;
+                learned = learned_more r.at.log e now u longer_by
+                    (λ n c h. a.numbers n (subst (Contains v.mine) h own) c) g.learned;
+                owns = g.owns;
                 posted = g.posted;
               },
               record { tickets = a.tickets; numbers = a.numbers; counts = a.counts },
             ))
-            (inr (record {
-              away = turn.2;
-              seat = i;
-              holder = w;
-              sits = set_here s.views i w ((at_get s.views i v at).0);
-              holds =
-                  holds;
-            })),
+            (inr (is_out s.homes s.views i v w at turn.2 holds)),
         λ named' has'. let same : named ≡ named' =
             ap (named_in named) (sym has ∙ has') in ap (λ (x : Snapshot K). (counted (m.entries x.value) v, me.1)) same,
       )
@@ -302,31 +269,22 @@ module _ {K E G : Type 0} (m : Ghosts K E G) (footing : G) (seats : ℕ) where
             (omega arith)
             (omega arith, r.most.0)
             r.callers
-            (λ each. value_within which each r.at n (λ other. m.shown other r.at.log) r.published (omega arith))
+            (each_shown (λ each k _. k ≤ m.shown each r.at.log) which n n (λ each. value each r.at)
+            (λ each. value each r.at) (omega arith) r.published)
             (record {
-              one = f.one;
-              within = f.within;
+              queue = f.queue;
               turn = f.turn;
-              saw = f.saw;
-              absorbed = f.absorbed;
-              ground_is = f.ground_is;
-              given = f.given;
-              owner = f.owner;
-              counts = f.counts;
+              learned = f.learned;
+              owns = f.owns;
               posted = published_posted which v n m.shown r.at f.posted low (sym is);
             })
             (λ j u apart e a g. (
               record {
-                one = g.one;
-                within = g.within;
+                queue = g.queue;
                 turn = g.turn;
-                saw = g.saw;
-                absorbed = g.absorbed;
-                ground_is = g.ground_is;
-                given = g.given;
-                owner = g.owner;
-                counts = g.counts;
-                posted = λ each. let p = g.posted each in let up = value_grows which each r.at n low in record {
+                learned = g.learned;
+                owns = g.owns;
+                posted = λ each. let p = g.posted each in let up = value_grows which r.at n low each in record {
                   knows = omega arith;
                   current = λ e'. let c = p.current e' in omega arith;
                   owes = p.owes;
@@ -334,14 +292,7 @@ module _ {K E G : Type 0} (m : Ghosts K E G) (footing : G) (seats : ℕ) where
               },
               record { tickets = a.tickets; numbers = a.numbers; counts = a.counts },
             ))
-            (inr (record {
-              away = turn.2;
-              seat = i;
-              holder = w;
-              sits = set_here s.views i w ((at_get s.views i v at).0);
-              holds =
-                  holds;
-            })),
+            (inr (is_out s.homes s.views i v w at turn.2 holds)),
         λ each same. ap (λ k. (published k v, me.1)) (same_word which each (sym word ∙ same)),
       )
 
@@ -366,15 +317,10 @@ module _ {K E G : Type 0} (m : Ghosts K E G) (footing : G) (seats : ℕ) where
             r.callers
             r.published
             (record {
-              one = f.one;
-              within = f.within;
+              queue = f.queue;
               turn = f.turn;
-              saw = f.saw;
-              absorbed = f.absorbed;
-              ground_is = f.ground_is;
-              given = f.given;
-              owner = f.owner;
-              counts = f.counts;
+              learned = f.learned;
+              owns = f.owns;
               posted = loaded_posted which v n m.shown (λ each. value each r.at) f.posted found;
             })
             (λ j u apart e a g. (g, record { tickets = a.tickets; numbers = a.numbers; counts = a.counts }))
@@ -407,8 +353,7 @@ module _ {K E G : Type 0} (m : Ghosts K E G) (footing : G) (seats : ℕ) where
             (omega arith, r.most.0)
             r.callers
             r.published
-            (idle_fits m footing seats (homes_after s.homes me.1 gives) t w refl refl f.saw f.absorbed f.ground_is
-            f.given f.owner f.counts
+            (idle_fits m footing seats (homes_after s.homes me.1 gives) t w refl refl f.learned f.owns
             (λ which. let p = f.posted which in
             record { knows = p.knows; current = p.current; owes = λ e. absurd (true≢false (sym e ∙ paid which)) }))
             (λ j u apart e a g. (

@@ -10,7 +10,7 @@ use Rattle.turn_lock.specs.declared.kept.Shown.TheVariants.{Cycles, Tickets}
 use Rattle.turn_lock.specs.declared.table.Spot.{Spot}
 use Rattle.turn_lock.specs.declared.table.Spot.TheVariants.{Home, Away, Counted}
 use Rattle.turn_lock.specs.declared.view.SeatView.{SeatView}
-use Rattle.turn_lock.specs.Entries.{of}
+use Rattle.turn_lock.specs.Entries.{pick}
 use Rattle.turn_lock.specs.Views.{known, counted, published, loaded}
 use Rattle.turn_lock.specs.Rule.{LockState, atomic_words, value, with_value, Posted}
 use Rattle.turn_lock.specs.Steps.{atomic_word_of, publishes}
@@ -55,22 +55,22 @@ module _ {E : Type 0} where
 
 -- ---- What is known and owed after a step
 
-module _ {E : Type 0} where
-  -- no published number falls by a publish
-  pub value_grows : (which each : Shown) (t : LockState E) (n : ℕ) → value which t ≤ n
-      → value each t ≤ value each (with_value which n t)
-  value_grows Cycles Cycles t n low = low
-  value_grows Cycles Tickets t n low = omega arith
-  value_grows Tickets Cycles t n low = omega arith
-  value_grows Tickets Tickets t n low = low
+-- where one of the two numbers changes, and with it what is said of it: what holds of the new one, and of each old one
+pub each_shown : {A B : Type 0} (P : Shown → A → B → Type 0) (which : Shown) (a : A) (b : B) (old : Shown → A)
+    (old' : Shown → B) → P which a b → ((each : Shown) → P each (old each) (old' each)) → (each : Shown)
+    → P each (pick each (pick which a (old Cycles)) (pick which (old Tickets) a))
+    (pick each (pick which b (old' Cycles)) (pick which (old' Tickets) b))
+each_shown P Cycles a b old old' new same Cycles = new
+each_shown P Cycles a b old old' new same Tickets = same Tickets
+each_shown P Tickets a b old old' new same Cycles = same Cycles
+each_shown P Tickets a b old old' new same Tickets = new
 
-  -- and it is not above what the list has, if the one that was stored is not
-  pub value_within : (which each : Shown) (t : LockState E) (n : ℕ) (most : Shown → ℕ)
-      → ((other : Shown) → value other t ≤ most other) → n ≤ most which → value each (with_value which n t) ≤ most each
-  value_within Cycles Cycles t n most old new = new
-  value_within Cycles Tickets t n most old new = old Tickets
-  value_within Tickets Cycles t n most old new = old Cycles
-  value_within Tickets Tickets t n most old new = new
+-- no published number falls by a publish
+pub value_grows : {E : Type 0} (which : Shown) (t : LockState E) (n : ℕ) → value which t ≤ n
+    → (each : Shown) → value each t ≤ value each (with_value which n t)
+value_grows which t n low =
+    each_shown (λ each k _. value each t ≤ k) which n n (λ each. value each t) (λ each. value each t) low
+    (λ each. omega arith)
 
 -- the word tells which of the two it is
 pub same_word : (which each : Shown) → atomic_word_of which ≡ atomic_word_of each → which ≡ each
@@ -95,25 +95,20 @@ module _ {E G : Type 0} where
       → shown which v.seen ≡ n
       → (each : Shown)
       → Posted (value each (with_value which n t)) (shown each) (known each (published which v)) v.holds v.seen
-  published_posted Cycles v n shown t p low is Cycles =
-      let k = (p Cycles).knows in
-      record { knows = omega arith; current = λ _. omega arith; owes = λ e. absurd (true≢false (sym e)) }
-  published_posted Cycles v n shown t p low is Tickets = p Tickets
-  published_posted Tickets v n shown t p low is Cycles = p Cycles
-  published_posted Tickets v n shown t p low is Tickets =
-      let k = (p Tickets).knows in
-      record { knows = omega arith; current = λ _. omega arith; owes = λ e. absurd (true≢false (sym e)) }
+  published_posted which v n shown t p low is =
+      each_shown (λ each k l. Posted k (shown each) l v.holds v.seen) which n (record (known which v) { owes = false })
+      (λ each. value each t) (λ each. known each v)
+      (let k = (p which).knows in
+      record { knows = omega arith; current = λ _. omega arith; owes = λ e. absurd (true≢false (sym e)) }) p
 
   -- after a load the number that was found is known
   pub loaded_posted : (which : Shown) (v : SeatView E G) (n : ℕ) (shown : Shown → List E → ℕ) (there : Shown → ℕ)
       → ((each : Shown) → Posted (there each) (shown each) (known each v) v.holds v.seen) → n ≡ there which
       → (each : Shown) → Posted (there each) (shown each) (known each (loaded which n v)) v.holds v.seen
-  loaded_posted Cycles v n shown there p is Cycles =
-      record { knows = omega arith; current = (p Cycles).current; owes = (p Cycles).owes }
-  loaded_posted Cycles v n shown there p is Tickets = p Tickets
-  loaded_posted Tickets v n shown there p is Cycles = p Cycles
-  loaded_posted Tickets v n shown there p is Tickets =
-      record { knows = omega arith; current = (p Tickets).current; owes = (p Tickets).owes }
+  loaded_posted which v n shown there p is =
+      each_shown (λ each l _. Posted (there each) (shown each) l v.holds v.seen) which
+      (record (known which v) { number = n }) n (λ each. known each v) there
+      (let k = p which in record { knows = omega arith; current = k.current; owes = k.owes }) p
 
 -- what stands in the hands of the turn's holder
 abbrev pub named_in : {K : Type 0} → Snapshot K → List (ℕ × Spot K) → Snapshot K

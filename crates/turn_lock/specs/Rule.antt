@@ -50,6 +50,12 @@ module _ {E : Type 0} where
     pub saw : Saw caller log absorbed.0 absorbed.1
     pub within : (pass : ℕ) → Contains absorbed.0 pass → Contains mine pass
 
+  -- this list was seen, and what is told of those that were joined into the seat is so
+  pub record Learned (caller : E → ℕ) (log : List E) (mine : List ℕ) (seen : List E) (told : List (List ℕ × List E))
+      : Type 0 where
+    pub saw : Saw caller log mine seen
+    pub absorbed : All (Absorbed caller log mine) told
+
   -- What is published is not below what the seat knows, nor below what it has seen, unless it owes this publish; and
   -- only the turn's holder owes one
   pub record Posted (published : ℕ) (shown : List E → ℕ) (k : Known) (holds : Bool) (seen : List E) : Type 0 where
@@ -61,6 +67,20 @@ module _ {E : Type 0} where
 abbrev pub one_if_some : Option ℕ → ℕ
 one_if_some None = 0
 one_if_some (Some n) = 1
+
+-- only a pass's seat has a ticket out, at most one, which is from the served one up to the next one
+pub record Queues (serving next : ℕ) (number : Option ℕ) (alive : Bool) : Type 0 where
+  pub one : one_if_some number ≤ cond alive 1 0
+  pub within : (ticket : ℕ) → number ≡ Some ticket → (serving ≤ ticket) × (ticket < next)
+
+-- a pass's seat knows the ground of the lock; its numbers are given ones, a pass's seat has one, and who keeps count of
+-- them is right
+pub record Owns {G : Type 0} (footing : G) (next : ℕ) (alive : Bool) (ground : Option G) (mine : List ℕ)
+    (kept : Option ℕ) : Type 0 where
+  pub ground_is : alive ≡ true → ground ≡ Some footing
+  pub given : (pass : ℕ) → Contains mine pass → pass < next
+  pub owner : alive ≡ true → (pass : ℕ) × Contains mine pass
+  pub counts : (k : ℕ) → kept ≡ Some k → k ≡ next
 
 module _ {E G : Type 0} where
   -- how many tickets a seat has out, and whether it is a pass's
@@ -88,20 +108,15 @@ module _ {K E G : Type 0} where
 module _ {K E G : Type 0} (m : Ghosts K E G) (footing : G) where
   -- what holds of each seat
   pub record Fits (homes : List (Maybe (Spot K))) (t : LockState E) (v : SeatView E G) : Type 0 where
-    -- only a pass's seat has a ticket out, at most one, which is from the served one up to the next one
-    pub one : out v ≤ living v
-    pub within : (ticket : ℕ) → v.number ≡ Some ticket → (t.serving ≤ ticket) × (ticket < t.ticket)
+    pub queue : Queues t.serving t.ticket v.number v.alive
+    pub open queue use *
     -- who holds the turn has the served ticket and has seen the counted list, and the slot is away
     pub turn : v.holds ≡ true → (v.number ≡ Some t.serving) × (v.seen ≡ t.log) × (homes ≡ none ∷ [])
     -- what it has seen, and what those had seen that were joined into it
-    pub saw : Saw m.caller t.log v.mine v.seen
-    pub absorbed : All (Absorbed m.caller t.log v.mine) v.absorbed
-    -- the ground of the lock
-    pub ground_is : v.alive ≡ true → v.footing ≡ Some footing
-    -- its numbers are given ones, a pass's seat has one, and who keeps count of them is right
-    pub given : (pass : ℕ) → Contains v.mine pass → pass < t.given
-    pub owner : v.alive ≡ true → (pass : ℕ) × Contains v.mine pass
-    pub counts : (k : ℕ) → v.given ≡ Some k → k ≡ t.given
+    pub learned : Learned m.caller t.log v.mine v.seen v.absorbed
+    pub open learned use *
+    pub owns : Owns footing t.given v.alive v.footing v.mine v.given
+    pub open owns use *
     pub posted : (which : Shown) → Posted (value which t) (m.shown which) (known which v) v.holds v.seen
 
   -- the value is at home, with the counted list, all of which is published

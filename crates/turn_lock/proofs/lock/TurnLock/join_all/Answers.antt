@@ -1,16 +1,18 @@
 use Rattle.std.proofs.Common.{◌≡◌, All, refl, sym, subst, ap, ◌∙◌, rules, arith}
+use Rattle.std.proofs.lemmas.List.Elements.{All-head, All-tail, All-rest}
 use Rattle.turn_lock.specs.Passes.{IsReady}
 use Rattle.turn_lock.specs.Views.{joined}
 use Rattle.turn_lock.proofs.PassLemmas.{idle}
-use Rattle.turn_lock.proofs.FinishLemmas.{next_of, rest_of, moved_on, gathered, covers_self}
-use Rattle.turn_lock.proofs.FinishLemmas.{covers_first, covers_next, joins_idle}
+use Rattle.turn_lock.proofs.FinishLemmas.{moved_on, gathered, covers_self}
+use Rattle.turn_lock.proofs.FinishLemmas.{covers_first, covers_next}
+use Rattle.turn_lock.proofs.SeatLemmas.{joins}
 use Rattle.turn_lock.proofs.lock.TurnLock.join_all.Goals as goal
 
 pub loop-pass-init : goal.loop-pass-init
 loop-pass-init g c =
     let first = c.args.first in
     let items = c.into_iter-pass-iterator.ensures.into_iter_gives.0 in
-    let ready = next_of (IsReady c.args.self.now) _ c.args.others.items first refl c.requires.ready in record {
+    let ready = All-head (IsReady c.args.self.now) first c.args.others.items c.requires.ready in record {
       table = ready.0;
       alive = first.alive;
       no_ticket = (idle first.seat.me first.stands ready.1).number;
@@ -19,7 +21,7 @@ loop-pass-init g c =
       first = covers_self g.K.Kept.caller first.seat.me.0;
       so_far = λ k d lt. absurd (omega arith);
       to_come = subst (All (IsReady c.args.self.now)) (sym items)
-          (rest_of (IsReady c.args.self.now) _ _ first refl c.requires.ready);
+          (All-tail (IsReady c.args.self.now) first c.args.others.items c.requires.ready);
       cut = items;
     }
 
@@ -27,12 +29,13 @@ pub join_seat-requires : goal.join_seat-requires
 join_seat-requires g c =
     let i = c.loop-pass.invariant in
     let p = c.in-Some.pass in
-    let ready = next_of (IsReady c.args.self.now) _ _ _ c.in-Some.ensures.steps.0 i.to_come in (
+    let to_come = subst (All (IsReady c.args.self.now)) c.in-Some.ensures.steps.0 i.to_come in
+    let ready = All-head (IsReady c.args.self.now) _ _ to_come in (
       i.table,
       ready.0,
       (idle p.seat.me p.stands ready.1).slot,
       search rules,
-      joins_idle _ _ _ _ _ _ p.seat.me i.no_ticket i.waits i.alive ready.1 p.stands,
+      joins _ _ _ _ _ _ p.seat.me i.no_ticket i.waits i.alive ready.1 p.stands,
     )
 
 pub loop-pass-preserved : goal.loop-pass-preserved
@@ -51,6 +54,6 @@ loop-pass-preserved g c =
       footing = now.3 ∙ i.footing;
       first = covers_first _ v w u _ is i.first;
       so_far = covers_next _ v u _ c.in-Some.pass is i.so_far;
-      to_come = rest_of (IsReady c.args.self.now) _ _ _ steps i.to_come;
+      to_come = All-rest (IsReady c.args.self.now) _ _ _ steps i.to_come;
       cut = moved_on c.loop-pass.yielded _ _ _ _ steps i.cut;
     }
