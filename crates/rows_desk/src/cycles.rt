@@ -68,7 +68,7 @@ fn play<C: Controller + Send>(
     requires few { length blanks.items < 2 ^ 32 }
 {
     let desk = Desk::boot(alloc, checked, Stock::make(blanks), SESSIONS)?;
-    let mut looping = DeskLoop::over(alloc, across(desk));
+    let mut looping = across(DeskLoop::over(alloc, desk));
     let held = hold_lines(alloc, &mut looping, case);
     drop(looping);
     held

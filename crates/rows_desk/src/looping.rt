@@ -5,7 +5,6 @@ ghost use Rattle.cm_model.specs.Ports.{CanBegin, CanClose};
 ghost use Rattle.desk_turns.specs.Ports.{loop_console};
 ghost use Rattle.rows_desk.specs.Loops.{MakesCycle};
 
-use cm_desk::Desk;
 use cm_model::LoopPort;
 use ctl_trait::Controller;
 use desk_turns::DeskLoop;
@@ -47,9 +46,9 @@ fn may_cross<T: Send + Drop>(value: T) -> T
     value
 }
 
-/// A desk may cross threads where its boxes may.
-pub(crate) fn across<C: Controller + Send>(desk: Desk<C>) -> Desk<C>
-    ensures { result ≡ desk }
+/// The console of the loop over a desk may cross threads where the desk's boxes may.
+pub(crate) fn across<C: Controller + Send>(looping: DeskLoop<C>) -> DeskLoop<C>
+    ensures { result ≡ looping }
 {
-    may_cross(desk)
+    may_cross(looping)
 }
