@@ -2,21 +2,24 @@
 
 ghost use Rattle.std.specs.Prelude.{◌≡◌, [], IfOk};
 
+use crate::documents::read;
 use crate::working::Working;
 use cm_desk::Desk;
-use cm_document::Checked;
+use cm_document::{Checked, Document};
 use cm_stock::Stock;
 use ctl_mock::Mock;
-use desc_check::check;
-use desc_text::read_description;
 use std::alloc::Global;
 
-/// A description of no cycles, with neither a component nor a controller.
-const EMPTY: &str = "version = 1\nupdate_rate = 100\ncycles = 0\n";
+/// A document of no cycles, with neither a component nor a controller.
+const EMPTY: &str = "version = 1\nupdate_rate = 100\ncycles = 0\n--- script ---\n";
 
 fn checked(alloc: Global) -> anyhow::Result<Checked> {
-    let description = read_description(alloc, EMPTY.as_bytes())?;
-    Ok(check(alloc, description)?)
+    let Document {
+        description,
+        script,
+    } = read(alloc, EMPTY)?;
+    drop(script);
+    Ok(description)
 }
 
 /// A desk of this description at boot, of so many sessions. Its controllers are of the kind that works in other

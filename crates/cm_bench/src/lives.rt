@@ -1,7 +1,8 @@
 //! How long a cycle of a live run takes, from before its begin until it has landed, with nobody beside it and with busy
 //! sessions.
 
-use crate::runs::Task;
+use crate::documents::read;
+use crate::runs::{Task, Way};
 use crate::watch::length_at;
 use cm_document::MOST_SESSIONS;
 use fixed_num::Memory;
@@ -28,14 +29,24 @@ where
     R: Clock + Print + AllocGlobal + Threads + Wait + Sync,
 {
     let text = work.document(rt.alloc())?;
+    let lengths = lengths_of(rt, text.as_str(), work.period_us, runs)?;
+    Ok(tell_lengths(rt, work.name, lengths.as_slice())?)
+}
+
+/// How long each cycle of so many live runs of this text takes, the least first.
+fn lengths_of<R>(rt: &R, text: &str, period_us: u64, runs: u64) -> anyhow::Result<Vec<u64>>
+where
+    R: Clock + AllocGlobal + Threads + Wait + Sync,
+{
+    let document = read(rt.alloc(), text)?;
     let task = Task {
-        text: text.as_str(),
+        document: &document,
+        way: Way::Live,
         turns: 0,
-        period_us: work.period_us,
+        period_us,
         is_whole: false,
     };
-    let lengths = task.lengths(rt, rt.alloc(), &["live"], runs)?;
-    Ok(tell_lengths(rt, work.name, lengths.as_slice())?)
+    task.lengths(rt, rt.alloc(), runs)
 }
 
 /// Prints the median, the hundredth greatest and the greatest of these lengths, which are in order.

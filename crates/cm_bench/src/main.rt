@@ -24,6 +24,7 @@ mod callers;
 mod cases;
 mod crowds;
 mod desks;
+mod documents;
 mod gears;
 mod limits;
 mod lives;

@@ -1,24 +1,68 @@
-//! Runs of a document, all of it in memory, and how long they took.
+//! Runs of a document, each to the end of its desk, and how long they took.
+
+ghost use Rattle.cm_document.specs.ScriptLaws.{MeetsRules};
 
 use crate::watch::Stopwatch;
 use crate::working::{Working, blanks};
+use cm_desk::Desk;
+use cm_document::{Checked, Document, Script};
 use cm_stock::Stock;
-use cm_top::run;
+use cm_words::{Job, JobKind};
 use ctl_mock::Mock;
+use desk_jobs::{desk_of_job, desk_of_job_by, desk_of_live_run};
 use fixed_num::Memory;
-use outside_io::{MemSink, MemSource, OpenGate};
+use outside_io::OpenGate;
 use std::alloc::Global;
 use std::rt::Clock;
 use std::sync::Wait;
 use std::thread::Threads;
 
-/// Bytes for the trace of a run, and more.
-const ROOM: usize = 1 << 20;
+/// How a document is run.
+#[derive(Clone, Copy)]
+pub(crate) enum Way {
+    /// Live, where one worker computes.
+    Live,
+    /// By the schedule, on one thread.
+    Alone,
+    /// By the schedule, where so many workers share each cycle.
+    Shared(u32),
+}
+
+impl Way {
+    /// The desk of a run over this stock, at its end.
+    fn desk<R>(
+        self,
+        rt: &R,
+        alloc: Global,
+        checked: Checked,
+        script: &Script,
+        stock: Stock<Working<Mock>>,
+        watch: &mut Stopwatch<'_, R>,
+    ) -> Result<Desk<Working<Mock>>, Memory>
+    where
+        R: Clock + Threads + Wait + Sync,
+        requires { MeetsRules script.now }
+    {
+        match self {
+            Way::Live => desk_of_live_run(rt, alloc, 1, checked, script, stock, watch, &OpenGate),
+            Way::Alone => desk_of_job(alloc, JobKind::Run, checked, script, stock),
+            Way::Shared(workers) => {
+                let asked = Job {
+                    kind: JobKind::Run,
+                    make: None,
+                    workers,
+                };
+                desk_of_job_by(rt, alloc, asked, checked, script, stock)
+            }
+        }
+    }
+}
 
 /// A document whose mocks mix a number so many times in each update, and what is timed of its runs.
 #[derive(Clone, Copy)]
 pub(crate) struct Task<'a> {
-    pub text: &'a str,
+    pub document: &'a Document,
+    pub way: Way,
     pub turns: u64,
     /// From one begin to the next, in microseconds; 0 if there is no pause between two cycles.
     pub period_us: u64,
@@ -27,20 +71,14 @@ pub(crate) struct Task<'a> {
 }
 
 impl Task<'_> {
-    /// Runs a job over it so many times: the lengths in nanoseconds, the least first.
-    pub fn lengths<R>(
-        self,
-        rt: &R,
-        alloc: Global,
-        job: &[&str],
-        runs: u64,
-    ) -> anyhow::Result<Vec<u64>>
+    /// Runs it so many times: the lengths in nanoseconds, the least first.
+    pub fn lengths<R>(self, rt: &R, alloc: Global, runs: u64) -> anyhow::Result<Vec<u64>>
     where
         R: Clock + Threads + Wait + Sync,
+        requires { MeetsRules self.document.now.script }
     {
-        let words = words_of(alloc, job)?;
         let mut watch = Stopwatch::make(rt, alloc, self.period_us, self.is_whole);
-        match self.run_often(rt, alloc, words.as_slice(), runs, &mut watch)? {
+        match self.run_often(rt, alloc, runs, &mut watch)? {
             true => Ok(watch.into_lengths()),
             false => Err(anyhow::anyhow!("a run that does not end well")),
         }
@@ -51,16 +89,16 @@ impl Task<'_> {
         self,
         rt: &R,
         alloc: Global,
-        words: &[String],
         runs: u64,
         watch: &mut Stopwatch<'_, R>,
     ) -> Result<bool, Memory>
     where
         R: Clock + Threads + Wait + Sync,
+        requires { MeetsRules self.document.now.script }
     {
         for _ in 0..runs {
             watch.begin();
-            if !self.ends_well(rt, alloc, words, watch)? {
+            if !self.ends_well(rt, alloc, watch)? {
                 return Ok(false);
             }
             watch.end();
@@ -68,55 +106,23 @@ impl Task<'_> {
         Ok(true)
     }
 
-    /// Whether one run ends well. The stock has the most parts, so it is made behind all else that can fail.
+    /// Whether one run ends well. The stock is made behind all else that can fail, and its desk is dropped.
     fn ends_well<R>(
         self,
         rt: &R,
         alloc: Global,
-        words: &[String],
         watch: &mut Stopwatch<'_, R>,
     ) -> Result<bool, Memory>
     where
         R: Clock + Threads + Wait + Sync,
+        requires { MeetsRules self.document.now.script }
     {
-        let mut source = source_of(alloc, self.text)?;
-        let mut sink = MemSink::make(alloc, ROOM, ROOM, Vec::new(alloc))?;
-        let stock = Stock::make(blanks(alloc, self.turns)?);
-        Ok(ends_well(rt, alloc, words, &mut source, &mut sink, stock, watch))
+        let blanks = blanks(alloc, self.turns)?;
+        let checked = self.document.description.copy()?;
+        let stock = Stock::make(blanks);
+        let desk = self
+            .way
+            .desk(rt, alloc, checked, &self.document.script, stock, watch);
+        Ok(desk.is_ok())
     }
-}
-
-/// The words of a job, each in a string.
-fn words_of(alloc: Global, job: &[&str]) -> Result<Vec<String>, Memory> {
-    let mut words = Vec::new(alloc);
-    for word in job {
-        words.push(String::from_str(alloc, word)?)?;
-    }
-    Ok(words)
-}
-
-/// A source that has this text.
-fn source_of(alloc: Global, text: &str) -> Result<MemSource, Memory> {
-    let bytes = text.as_bytes().to_vec(alloc)?;
-    Ok(MemSource::make(bytes, ROOM, Vec::new(alloc)))
-}
-
-/// Whether a run over this stock ends well. Its book is dropped.
-fn ends_well<R>(
-    rt: &R,
-    alloc: Global,
-    words: &[String],
-    source: &mut MemSource,
-    sink: &mut MemSink,
-    stock: Stock<Working<Mock>>,
-    watch: &mut Stopwatch<'_, R>,
-) -> bool
-where
-    R: Clock + Threads + Wait + Sync,
-{
-    let (status, book) = run(rt, alloc, words, source, sink, stock, watch, &OpenGate);
-    drop(book);
-    let code = status.code();
-    drop(status);
-    code == 0
 }

@@ -1,8 +1,12 @@
 //! How long a cycle takes in which controllers of one depth compute for a while, by one worker and by several.
 
-use crate::runs::Task;
+ghost use Rattle.cm_document.specs.ScriptLaws.{MeetsRules};
+
+use crate::documents::read;
+use crate::runs::{Task, Way};
 use crate::watch::length_at;
 use crate::working::{MOST_WORKING, mixed};
+use cm_document::Document;
 use std::rt::Clock;
 use std::sync::Wait;
 use std::thread::Threads;
@@ -19,9 +23,28 @@ pub(crate) fn tell_workers<R>(rt: &R, runs: u64) -> anyhow::Result<()>
 where
     R: Clock + Print + AllocGlobal + Threads + Wait + Sync,
 {
+    let document = read(rt.alloc(), DOCUMENT)?;
+    tell_all(rt, &document, runs)
+}
+
+/// Prints the lines of this document.
+fn tell_all<R>(rt: &R, document: &Document, runs: u64) -> anyhow::Result<()>
+where
+    R: Clock + Print + AllocGlobal + Threads + Wait + Sync,
+    requires { MeetsRules document.now.script }
+{
     let turns = turns_of_a_microsecond(rt)?;
     for number in 0..16 {
-        tell_least(rt, micros(number / 4), workers(number % 4), turns, runs)?;
+        let micros = micros(number / 4);
+        let workers = workers(number % 4);
+        let task = Task {
+            document,
+            way: way(workers),
+            turns: turns.saturating_mul(micros),
+            period_us: 0,
+            is_whole: true,
+        };
+        tell_least(rt, task, micros, workers, runs)?;
     }
     Ok(())
 }
@@ -49,29 +72,31 @@ fn micros(number: u32) -> u64 {
     }
 }
 
-/// How many workers there are, as a word.
-fn workers(number: u32) -> &'static str {
+/// How many workers there are.
+fn workers(number: u32) -> u32 {
     match number {
-        0 => "1",
-        1 => "2",
-        2 => "4",
-        _ => "8",
+        0 => 1,
+        1 => 2,
+        2 => 4,
+        _ => 8,
     }
 }
 
-/// Prints the line of controllers that compute for so many microseconds, in each of which a number is mixed so often,
-/// by so many workers.
-fn tell_least<R>(rt: &R, micros: u64, workers: &str, turns: u64, runs: u64) -> anyhow::Result<()>
+/// How so many workers run it.
+fn way(workers: u32) -> Way {
+    match workers {
+        1 => Way::Alone,
+        _ => Way::Shared(workers),
+    }
+}
+
+/// Prints the line of a task, of controllers that compute for so many microseconds, by so many workers.
+fn tell_least<R>(rt: &R, task: Task<'_>, micros: u64, workers: u32, runs: u64) -> anyhow::Result<()>
 where
     R: Clock + Print + AllocGlobal + Threads + Wait + Sync,
+    requires { MeetsRules task.document.now.script }
 {
-    let task = Task {
-        text: DOCUMENT,
-        turns: turns.saturating_mul(micros),
-        period_us: 0,
-        is_whole: true,
-    };
-    let lengths = task.lengths(rt, rt.alloc(), &["run", "--workers", workers], runs)?;
+    let lengths = task.lengths(rt, rt.alloc(), runs)?;
     let nanos = length_at(lengths.as_slice(), 0) / CYCLES;
     println!(rt; "{CONTROLLERS} of {micros} us by {workers}: {nanos} ns a cycle")?;
     Ok(())
