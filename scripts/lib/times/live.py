@@ -2,10 +2,10 @@
 
 First it runs the built program with `run` and with `live`, in turns, on documents of 100,000 cycles in which no session
 waits: `bare` has neither a joint nor a controller, and the others are those of `scripts/times program`. Then eight
-sessions wait for the last cycle of `bare`, on two processors, in turns with `bare` itself. Then it runs cm_bench: as
-`scripts/times bodies` does, for the callers of one desk, which have passes or lock std's mutex round the same boxed
-desk; and with `live`, for how long a cycle takes from before its begin until it has landed. If cm_bench is missing, it
-is proved and built first.
+sessions wait for the last cycle of `bare`, on two processors, in turns with eight that list once and end, because a
+loop beside sessions takes turns. Then it runs cm_bench: as `scripts/times bodies` does, for the callers of one desk,
+which have passes or lock std's mutex round the same boxed desk; and with `live`, for how long a cycle takes from before
+its begin until it has landed. If cm_bench is missing, it is proved and built first.
 """
 
 import re
@@ -39,9 +39,18 @@ def bare():
     return document(HEAD, [])
 
 
-def waiting():
-    lines = ([f"session {name}", f"await {CYCLES}"] for name in named("s", SESSIONS))
+def each_session(line):
+    """Returns `bare` with sessions of this one line."""
+    lines = ([f"session {name}", line] for name in named("s", SESSIONS))
     return document(HEAD, [line for each in lines for line in each])
+
+
+def waiting():
+    return each_session(f"await {CYCLES}")
+
+
+def ended():
+    return each_session("list controllers")
 
 
 def by_both_jobs(program, name, document):
@@ -59,15 +68,16 @@ def time_on_two(program, document):
     return took, after.ru_utime + after.ru_stime - before.ru_utime - before.ru_stime
 
 
-def tell_waiting(program, document, alone):
+def tell_waiting(program, document, without):
     """Prints how long a run takes in which all sessions wait, and which part of a processor they take."""
-    took, busy, took_alone, busy_alone = zip(
-        *((*time_on_two(program, document), *time_on_two(program, alone)) for _ in range(WAITING_RUNS))
+    took, busy, took_without, busy_without = zip(
+        *((*time_on_two(program, document), *time_on_two(program, without)) for _ in range(WAITING_RUNS))
     )
-    part = (sum(busy) - sum(busy_alone)) / sum(took)
+    part = (sum(busy) - sum(busy_without)) / sum(took)
     print(
-        f"On two processors a live run of `bare` took {in_ms(took_alone)}. With eight sessions that wait for\n"
-        f"its last cycle it took {in_ms(took)}, and they took {part:.2f} of a processor."
+        f"On two processors a live run of `bare` with eight sessions that list once took {in_ms(took_without)}.\n"
+        f"With eight that wait for its last cycle it took {in_ms(took)}.\n"
+        f"To wait took {part:.2f} of a processor."
     )
 
 
@@ -95,13 +105,14 @@ def of_cycles(bench):
 def main(asked):
     program, bench = bodies.programs_of(asked)
     with tempfile.TemporaryDirectory() as folder:
-        made = {"bare": bare, "waiting": waiting, **{name: made for name, (made, _) in DOCUMENTS.items()}}
+        made = {"bare": bare, "waiting": waiting, "ended": ended}
+        made |= {name: make for name, (make, _) in DOCUMENTS.items()}
         paths = {name: Path(folder, name) for name in made}
         for name, path in paths.items():
             path.write_text(made[name]())
         rows = [by_both_jobs(program, name, paths[name]) for name in ["bare", *DOCUMENTS]]
         tell_table(("Document", "A cycle of `run`", "Of `live`", "Ratio"), *rows)
-        tell_waiting(program, paths["waiting"], paths["bare"])
+        tell_waiting(program, paths["waiting"], paths["ended"])
     head = "Callers of one desk", "A call under std's mutex", "By passes", "Calls a second under the mutex", "By passes"
     tell_table(head, *of_callers(bench))
     tell_table(("Sessions beside the loop", "Median of a cycle", "Hundredth greatest", "Greatest"), *of_cycles(bench))
